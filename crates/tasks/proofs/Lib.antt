@@ -1,0 +1,6 @@
+pub mod Walks
+pub mod Plans
+pub mod Sheets
+pub mod Shows
+pub mod Sporadics
+pub mod Makes
