@@ -1,0 +1,5 @@
+pub mod Faults
+pub mod Progress
+pub mod Ends
+pub mod Loaders
+pub mod Loads
