@@ -9,13 +9,14 @@ use Rattle.std.specs.declared.option.Option.{Option}
 use Rattle.std.specs.declared.option.Option.the-variants.{None, Some}
 use Rattle.tasks.specs.Plans.{Plan}
 use Rattle.tasks.specs.Graphs.{plan}
+use Rattle.table.specs.Numbers.{taskNumbers}
 use Rattle.table.specs.Items.{Item, enterAnswer}
 use Rattle.editor.specs.declared.editor.Sketch.{Sketch}
 
--- A draft's task may enter the table, and there is room for its row.
+-- A draft's task has a number in range and may enter the table, and there is room for its row.
 abbrev pub held : Option Sketch → List Item → Bool
 held None is = true
-held (Some s) is = isOk (enterAnswer is (s .number) true) && eqb (vec-len (s .row)) 1001
+held (Some s) is = isOk (taskNumbers (s .number) (s .place)) && (isOk (enterAnswer is (s .number) true) && eqb (vec-len (s .row)) 1001)
 
 -- The draft as a plain value: the task's number and place, and its modes and gaps so far.
 pub record Outline : Type 0 where

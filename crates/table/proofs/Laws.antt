@@ -15,7 +15,8 @@ use Rattle.line.specs.Lawful.{Lawful, TaskLaws}
 use Rattle.tasks.specs.Makes.{sole}
 use Rattle.tasks.proofs.Makes.{angular-laws, sporadic-laws}
 use Rattle.table.specs.Items.{Item, taskOf, lineOf, blank, Leaves}
-use Rattle.table.specs.Tables.{makeOf, itemOf, items, tableLeaves}
+use Rattle.table.specs.Tables.{items, tableLeaves}
+use Rattle.table.specs.Tasks.{makeOf, itemOf}
 use Rattle.table.specs.declared.make.Make.{Make}
 use Rattle.table.specs.declared.make.Make.the-variants.{Sporadic, Angular}
 use Rattle.table.specs.declared.make.Task.{Task}

@@ -16,7 +16,7 @@ use Rattle.std.proofs.shelf.Tests.{cond-true, cond-false, lt-ltb, le-ltb, eq-eq
 use Rattle.std.proofs.shelf.Ways.{tells}
 use Rattle.line.specs.Meaning.{taskAt, nowhere}
 use Rattle.table.specs.Items.{Item, Make, blank, taskOf, lineOf, placeOf, isAngular, angulars}
-use Rattle.table.specs.Tables.{makeOf, itemOf}
+use Rattle.table.specs.Tasks.{makeOf, itemOf}
 use Rattle.table.specs.declared.make.Task.{Task}
 
 pub items-inserted : (ts : List Task) (i : ℕ) (t : Task) → map itemOf (inserted ts i t) ≡ inserted (map itemOf ts) i (itemOf t)

@@ -7,17 +7,18 @@ use lib.Dec.{eqb, ltb, leb}
 use lib.ListN.{length, getD}
 use Rattle.std.specs.Holes.{inserted}
 use Rattle.std.specs.Options.{isSome, mapped}
-use Rattle.std.specs.Orderings.{When}
+use Rattle.std.specs.Results.{isOk}
 use Rattle.std.specs.declared.option.Option.{Option}
 use Rattle.std.specs.declared.option.Option.the-variants.{None, Some}
 use Rattle.std.specs.declared.result.Result.{Result}
 use Rattle.std.specs.declared.result.Result.the-variants.{Ok, Err}
 use Rattle.line.specs.declared.refusal.Refusal.the-variants.{NoRoom, NumberTaken}
 use Rattle.line.specs.Meaning.{Task, Meaning}
-use Rattle.tasks.specs.Answers.{Answer}
+use Rattle.tasks.specs.Answers.{Answer, andThen}
 use Rattle.tasks.specs.Plans.{Plan, graphOf}
 use Rattle.tasks.specs.Makes.{sporadicTask, angularTask}
 use Rattle.tasks.specs.Sheets.{Filled, Kept}
+use Rattle.table.specs.Numbers.{taskNumbers}
 
 -- A task's make: sporadic with its cost, period and deadline, or angular with its modes and gaps.
 pub data Make : Type 0 where
@@ -68,14 +69,23 @@ roomFor is crank = not (crank && leb 8 (angulars is)) && ltb (length is) 16
 abbrev pub enterAnswer : List Item → ℕ → Bool → Answer
 enterAnswer is number crank = cond (roomFor is crank) (cond (isSome (placeOf number is)) (Err NumberTaken) (Ok tt)) (Err NoRoom)
 
+-- A task with a number in range may enter.
+abbrev pub enters : List Item → Item → Bool
+enters is i = isOk (andThen (taskNumbers (i .number) 0) (enterAnswer is (i .number) (isAngular (i .make))))
+
 -- The tasks with one more at a place, or at the end where the place is past it.
 abbrev pub entered : List Item → ℕ → Item → List Item
 entered is place i = inserted is (min place (length is)) i
 
--- A task is put in, or a full table hands it back and stays.
+-- A task is put in, or one that may not enter is handed back and the table stays.
 abbrev pub InsertDone : {T : Type 0} → List Item → ℕ → Item → List Item → (T → Item) → Result (Unit {0}) T → Type 0
-InsertDone is place i is′ of (Ok u) = (ltb (length is) 16 ≡ true) × (is′ ≡ entered is place i)
-InsertDone is place i is′ of (Err t) = (ltb (length is) 16 ≡ false) × (of t ≡ i) × (is′ ≡ is)
+InsertDone is place i is′ of (Ok u) = (enters is i ≡ true) × (is′ ≡ entered is place i)
+InsertDone is place i is′ of (Err t) = (enters is i ≡ false) × (of t ≡ i) × (is′ ≡ is)
+
+-- What always holds of a table's tasks: each number is from 1 to 999 and no two are the same.
+abbrev pub apart : List Item → Bool
+apart [] = true
+apart (i ∷ is) = isOk (taskNumbers (i .number) 0) && (not (isSome (placeOf (i .number) is)) && apart is)
 
 -- What showing a task, or closing it, makes of the work sheet: a sporadic task leaves it alone; an angular
 -- one fills the cells of its modes, and keeps the others.

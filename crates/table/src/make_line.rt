@@ -1,7 +1,7 @@
 //! A task of either make as an exact line of one place.
 ghost use mathlib.Core.Path.{_≡_};
 ghost use Rattle.table.specs.Items.{taskOf, isAngular, Leaves};
-ghost use Rattle.table.specs.Tables.{makeOf};
+ghost use Rattle.table.specs.Tasks.{makeOf};
 ghost use Rattle.tasks.specs.Makes.{sole};
 use crate::make::Make;
 use line::ExactLine;

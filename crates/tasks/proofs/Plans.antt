@@ -167,3 +167,7 @@ gap-between p a b la lb = sym (cond-true _ _ _ (lt-ltb _ _ la) ∙ cond-true _ _
 -- What is read at the cell of two modes is their gap.
 pub gap-read : (g : ModeGraph) (a b : ℕ) (o : Option ℕ) → a < vec-len (g .modes) → b < vec-len (g .modes) → o ≡ getD (vec-items (g .gaps)) (a * 16 + b) o → o ≡ graphOf (plan g) .gap a b
 gap-read g a b o la lb e = getD-read (vec-items (g .gaps)) (a * 16 + b) o (omega (arith, g .few, g .square, g .gaps .ok .0)) e None
+
+-- A whole graph has a mode.
+pub whole-some : (p : Plan) → wholeAnswer p ≡ Ok tt → 1 ≤ length (p .modes)
+whole-some p h = grind (arith, tells)

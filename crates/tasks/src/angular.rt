@@ -1,11 +1,13 @@
 //! The angular task: a graph of modes, and the most work in each window.
+ghost use mathlib.Core.Bool.{true};
 ghost use mathlib.Core.Path.{_≡_};
 ghost use Prim.Native.Nat.{ℕ, _≤_, _<_};
 ghost use lib.ListN.{length, getD, replicate};
 ghost use Rattle.std.specs.Of.Vec.{vec-items, vec-len};
-ghost use Rattle.std.specs.Results.{Cases};
+ghost use Rattle.std.specs.Results.{Cases, isOk};
+ghost use Rattle.std.specs.declared.result.Result.the-variants.{Ok};
 ghost use Rattle.line.specs.declared.refusal.Refusal.the-variants.{NoMemory};
-ghost use Rattle.tasks.specs.Plans.{graphOf};
+ghost use Rattle.tasks.specs.Plans.{graphOf, wholeAnswer};
 ghost use Rattle.tasks.specs.Greatest.{Most};
 ghost use Rattle.tasks.specs.Best.{mostOf};
 ghost use Rattle.tasks.specs.Makes.{sole, angularTask};
@@ -30,6 +32,7 @@ pub struct Angular {
     graph: ModeGraph,
     row: Vec<u32>,
     ghost some: { 1 ≤ length (plan graph .modes) },
+    ghost whole: { isOk (wholeAnswer (plan graph)) ≡ true },
     ghost wide: { vec-len row ≡ 1001 },
     ghost right: { RowTo (graphOf (plan graph)) (vec-items row) 1001 },
 }
@@ -44,7 +47,7 @@ pub fn new_row(heap: Global) -> Result<Vec<u32>, Refusal>
 impl Angular {
     /// The task of a graph, over the room for its row; the row is filled from the sheet.
     pub fn new(graph: ModeGraph, mut row: Vec<u32>, sheet: &mut [u32]) -> Angular
-        requires some { ⌜ 1 ≤ length (plan graph .modes) ⌝ }
+        requires whole { ⌜ wholeAnswer (plan graph) ≡ Ok tt ⌝ }
         requires wide { ⌜ vec-len row ≡ 1001 ⌝ }
         requires room { ⌜ 16016 ≤ length (now sheet) ⌝ }
         ensures same { λ r. ⌜ plan (r .graph) ≡ plan graph ⌝ }

@@ -7,10 +7,12 @@ ghost use Rattle.std.specs.Options.{Cases as BySome};
 ghost use Rattle.std.specs.Results.{Cases};
 ghost use Rattle.line.specs.Meaning.{taskAt, nowhere};
 ghost use Rattle.line.specs.declared.refusal.Refusal.the-variants.{NoMemory};
-ghost use Rattle.table.specs.Items.{blank, taskOf, lineOf, placeOf, numberAt, angulars, roomFor, enterAnswer, InsertDone};
-ghost use Rattle.table.specs.Tables.{items, itemOf};
+ghost use Rattle.table.specs.Items.{blank, taskOf, lineOf, placeOf, numberAt, angulars, roomFor, enterAnswer, enters, InsertDone};
+ghost use Rattle.table.specs.Tables.{items};
+ghost use Rattle.table.specs.Tasks.{itemOf};
 use super::Table;
 use crate::make::Task;
+use crate::make::check_task;
 use line::limits::PLACES;
 use line::refusal::Refusal;
 use line::refusal::RefusalFromAlloc;
@@ -107,12 +109,20 @@ impl Table {
         Ok(())
     }
 
+    /// Whether a task may enter.
+    fn takes(&self, task: &Task) -> bool
+        ensures { λ r. ⌜ r ≡ enters (items (now (self .entry))) (itemOf (now (task .entry))) ⌝ }
+    {
+        check_task(task.number, 0).is_ok()
+            && self.may_enter(task.number, task.make.is_angular()).is_ok()
+    }
+
     /// Puts a task in at a place, or at the end where the place is past it; lower tasks move down.
-    /// A full table hands the task back.
+    /// A task that may not enter is handed back.
     pub fn insert(&mut self, place: usize, task: Task) -> Result<(), Task>
         ensures { λ r. ⌜ InsertDone (items (now (self .entry))) place (itemOf task) (items (now (self .exit))) itemOf r ⌝ }
     {
-        if self.tasks.len() >= PLACES {
+        if !self.takes(&task) {
             return Err(task);
         }
         let at = place.min(self.tasks.len());

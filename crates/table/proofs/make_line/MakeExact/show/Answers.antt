@@ -2,7 +2,7 @@ use mathlib.Core.Path.{sym, subst}
 use Rattle.line.specs.Shows.{ShowDone}
 use Rattle.tasks.specs.Makes.{sole}
 use Rattle.table.specs.Items.{taskOf, Leaves}
-use Rattle.table.specs.Tables.{makeOf}
+use Rattle.table.specs.Tasks.{makeOf}
 use Rattle.table.specs.declared.make.Make.{Make}
 use Rattle.table.proofs.make_line.MakeExact.show.Needs as need
 

@@ -1,7 +1,7 @@
 use mathlib.Core.Path.{sym, _∙_}
 use Rattle.std.specs.Of.Vec.{vec-items}
 use Rattle.std.proofs.shelf.Lists.{length-map}
-use Rattle.table.specs.Tables.{itemOf}
+use Rattle.table.specs.Tasks.{itemOf}
 use Rattle.table.proofs.table.Table.len.Needs as need
 
 pub returns : need.returns

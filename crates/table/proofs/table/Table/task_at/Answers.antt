@@ -2,7 +2,7 @@ use mathlib.Core.Path.{sym, ap, _∙_}
 use native.Mathlib.Omega.{arith}
 use Rattle.std.specs.Of.Vec.{vec-items}
 use Rattle.std.proofs.shelf.Lists.{length-map}
-use Rattle.table.specs.Tables.{itemOf}
+use Rattle.table.specs.Tasks.{itemOf}
 use Rattle.table.proofs.Reading.{item-there, task-there, task-past}
 use Rattle.table.proofs.table.Table.task_at.Needs as need
 

@@ -1,4 +1,5 @@
-use Rattle.table.specs.Tables.{itemOf, items}
+use Rattle.table.specs.Tables.{items}
+use Rattle.table.specs.Tasks.{itemOf}
 use Rattle.table.proofs.Laws.{shows-task}
 use Rattle.table.proofs.table.questions.TableExact.show.Needs as need
 
