@@ -1,0 +1,3 @@
+mod Worked
+mod Guards
+mod Joining
