@@ -1,0 +1,4 @@
+pub mod Slots
+pub mod Calms
+pub mod Ruling
+pub mod Running

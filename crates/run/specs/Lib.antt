@@ -1,0 +1,5 @@
+pub mod Course
+pub mod Ticks
+pub mod Calls
+pub mod Steps
+pub mod Rules
