@@ -3,3 +3,7 @@ pub mod Bounding
 pub mod Adding
 pub mod Showing
 pub mod Judging
+pub mod Asking
+pub mod Accounts
+pub mod Serving
+pub mod Keeping
