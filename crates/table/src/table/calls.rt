@@ -7,7 +7,7 @@ ghost use Rattle.std.specs.Options.{Cases as BySome};
 ghost use Rattle.std.specs.Results.{Cases};
 ghost use Rattle.line.specs.Meaning.{taskAt, nowhere};
 ghost use Rattle.line.specs.declared.refusal.Refusal.the-variants.{NoMemory};
-ghost use Rattle.table.specs.Items.{blank, taskOf, lineOf, placeOf, numberAt, angulars, roomFor, enterAnswer, enters, InsertDone};
+ghost use Rattle.table.specs.Items.{blank, taskOf, lineOf, placeOf, numberAt, isAngular, angulars, roomFor, enterAnswer, enters, InsertDone};
 ghost use Rattle.table.specs.Tables.{items};
 ghost use Rattle.table.specs.Tasks.{itemOf};
 use super::Table;
@@ -63,6 +63,16 @@ impl Table {
         match self.task_at(place) {
             Some(t) => t.number,
             None => 0,
+        }
+    }
+
+    /// Whether the task at a place is angular; where there is none, it is not.
+    pub fn is_angular_at(&self, place: usize) -> bool
+        ensures { λ r. ⌜ r ≡ isAngular (getD (items (now (self .entry))) place blank .make) ⌝ }
+    {
+        match self.task_at(place) {
+            Some(t) => t.make.is_angular(),
+            None => false,
         }
     }
 
