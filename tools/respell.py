@@ -4,7 +4,7 @@ usage: respell.py FOLDER [--list]
 
 Run once at the top of a checkout, after the toolchain's own script. It collects the names that the crates' specs/ and
 proofs/ declare (definitions, lemmas, fields, constructors, names of `let`), and turns each that has a capital or a dash
-into snake case: in specs/ and proofs/, in the clauses and ghost items of src/, in must-fail edits, and between backticks
+into snake case, and types with a dash into camel case: in specs/ and proofs/, in the clauses and ghost items of src/, in must-fail edits, and between backticks
 in comments and pages. Functions of src/, strings, inputs and outputs keep their names, as do the names that Rattle
 makes of a function's goals and those of the library. --list prints the names, and changes nothing. Names that would
 fall together in one file stop it.
@@ -38,6 +38,16 @@ def respelled(name):
 
 def spelled(name):
     return name == respelled(name)
+
+
+TYPE = r"[A-Z][A-Za-z0-9]*(?:-[A-Za-z0-9]+)+'*"
+DECLARED_TYPE = re.compile(r"^\s*(?:(?:pub|abbrev|opaque|unfoldable|record|data)\s+)*(" + TYPE + r")\s*(?:\(.*\)\s*)?:(?:\s|$)", re.M)
+TYPE_WORD = re.compile(r"(?<![\w'\-])" + TYPE + r"(?![\w'\-])")
+
+
+def camel(name):
+    """The name of a type in camel case."""
+    return re.sub(r"-([A-Za-z0-9])", lambda m: m[1].upper(), name)
 
 
 def antt_files(root):
@@ -103,6 +113,10 @@ def declared(root):
     return names, fields
 
 
+def declared_types(root):
+    return {n for path in antt_files(root) for n in DECLARED_TYPE.findall(bare(read(path)))}
+
+
 def together(names, root):
     """The pairs of names that would fall together in one file."""
     out = []
@@ -112,6 +126,10 @@ def together(names, root):
             seen[respelled(w) if w in names else w].add(w)
         out += [(path, new, sorted(olds)) for new, olds in sorted(seen.items()) if len(olds) > 1]
     return out
+
+
+def typed(text, types):
+    return TYPE_WORD.sub(lambda m: camel(m[0]) if m[0] in types else m[0], text)
 
 
 def turned(text, names, fields, skip, module_names):
@@ -152,8 +170,9 @@ def ticked(text, names):
 def main(argv):
     root = argv[0] if argv else "."
     names, fields = declared(root)
+    types = declared_types(root)
     if "--list" in argv:
-        print("\n".join(f"{n} {respelled(n)}" for n in sorted(names)))
+        print("\n".join([f"{n} {respelled(n)}" for n in sorted(names)] + [f"{n} {camel(n)}" for n in sorted(types)]))
         return 0
     if (clash := together(names, root)) and "--anyway" not in argv:
         for path, new, olds in clash:
@@ -166,6 +185,7 @@ def main(argv):
         skip = foreign(bare(text), own)
         aliases = set(re.findall(r"\buse\s+\S+\s+as\s+([\w\-]+)", text)) - {"goal", "given", "goals"}
         new = "".join(turned(p, names, fields, skip, module_names | aliases) if code else (ticked(p, names) if p.startswith("--") else p) for code, p in split(text, path))
+        new = typed(new, types)
         if new != text:
             with open(path, "w", encoding="utf-8") as f:
                 f.write(new)
@@ -177,6 +197,7 @@ def main(argv):
             new = turned(text, names, fields, set(), module_names)
         else:
             new = "".join(turned(p, names, fields, set(), module_names) if code else (ticked(p, names) if p.startswith("//") else p) for code, p in split(text, path))
+        new = typed(new, types)
         if new != text:
             with open(path, "w", encoding="utf-8") as f:
                 f.write(new)

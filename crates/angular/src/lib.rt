@@ -4,6 +4,8 @@
 //! The work sheet is memory that the caller lends: for each mode and window it has the greatest work
 //! of a walk from that mode, and one pass over links and windows fills it. From it an angular task
 //! takes its row, one number a window, and the walk that it shows.
+#![tactic(auto)]
+
 ghost use Rattle.std.specs.Prelude.{◌≡◌, ℕ, ◌<◌, ◌≤◌, true, length, replicate, is_ok, Ok, vec_len, MatchResult, slice_index};
 ghost use Rattle.line.specs.declared.refusal.Refusal.TheVariants.{NoMemory};
 ghost use Rattle.line.specs.Changes.{change_numbers, change_answer};

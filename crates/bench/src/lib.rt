@@ -4,6 +4,8 @@
 //! call refuses by rising number and then changes nothing; an accepted edit puts the verdict back to
 //! none and all bounds to 0. A `Draft` is the ticket of the open draft: it is spent by `close` or by
 //! `abandon`, exactly once, and the build refuses one that is left lying.
+#![tactic(auto)]
+
 pub mod bench;
 pub mod ticket;
 pub mod verdict;

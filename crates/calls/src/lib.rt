@@ -1,5 +1,7 @@
 //! Lists of calls on a bench, as text: a line for each call, its name and its numbers, with one space
 //! between two words. The line of a load is followed by its text and a line feed.
+#![tactic(auto)]
+
 pub mod call;
 pub mod list;
 mod names;

@@ -1,5 +1,6 @@
 //! Tests of the library's calls that no text can reach: load refused before any line, strangers'
 //! tickets, a close that hands its ticket back, and a verdict that an edit puts back.
+#![tactic(auto)]
 
 #[cfg(test)]
 mod tests {

@@ -5,6 +5,8 @@
 //! bytes and a line feed. A refusal is written as `refused NUMBER`, with line, byte place and layer
 //! where a load is refused, and with `changed` behind it if bench, bounds or lent memory are not as
 //! they were.
+#![tactic(auto)]
+
 mod answer;
 mod lent;
 mod player;

@@ -1,4 +1,6 @@
 //! Why a text is refused, and where.
+#![tactic(auto)]
+
 ghost use Rattle.std.specs.Prelude.{◌≡◌};
 ghost use Rattle.line.specs.declared.refusal.Refusal.TheVariants.{NoForm as Formless};
 ghost use Rattle.faults.specs.Faults.{layer_word, in_task, in_table, in_text, placed};

@@ -9,6 +9,8 @@
 //! - `mode C D`: a mode with its cost and deadline;
 //! - `link A B P`: a link from a mode to a mode with its gap;
 //! - `end K Z`: the trailer with the number of tasks and the place of the last task's first line.
+#![tactic(auto)]
+
 pub mod form;
 pub mod keyword;
 pub mod number;

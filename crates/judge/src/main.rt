@@ -1,4 +1,6 @@
 //! Reads a task table's text on standard input, and writes the bound of every mode and the verdict.
+#![tactic(auto)]
+
 use anyhow::anyhow;
 use line::refusal::Refusal;
 use report::report;

@@ -1,5 +1,5 @@
 -- What the laws say of the questions' answers. Assumes nothing.
-use Rattle.std.proofs.Common.{◌≡◌, ℕ, ◌+◌, ◌<◌, ◌≤◌, Bool, true, false, cond, ltb, leb, refl, arith, ltb-true, leb-true}
+use Rattle.std.proofs.Common.{◌≡◌, ℕ, ◌<◌, ◌≤◌, Bool, true, false, cond, ltb, leb, refl, arith, ltb-true, leb-true}
 use Rattle.line.specs.Meaning.{Meaning, Task, sole, nowhere, task_at, modes_in, cost_in, deadline_in, most_in}
 use Rattle.line.specs.Lawful.{Lawful, TaskLaws}
 

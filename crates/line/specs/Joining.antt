@@ -1,10 +1,10 @@
 -- The laws of a joined line from those of its parts, and what it shows. Assumes nothing.
-use Rattle.std.specs.Prelude.{◌≡◌, ℕ, ◌+◌, ◌-◌, ◌<◌, ◌≤◌, min, Bool, true, false, cond, List, length, Ok, Err, MatchBool, Result, nat_lt, refl}
+use Rattle.std.specs.Prelude.{◌≡◌, ℕ, ◌+◌, ◌-◌, ◌<◌, ◌≤◌, Bool, true, false, cond, List, length, Ok, Err, MatchBool, Result, nat_lt, refl}
 use Rattle.std.proofs.Common.{sym, ap, subst, ◌∙◌, arith, ltb-true, ltb-false}
 use Rattle.std.proofs.lemmas.Bool.{cond-true, cond-false, lt-ltb, le-ltb}
 use Rattle.std.proofs.lemmas.Bool.Decides.{nat_tests}
 use Rattle.line.specs.declared.refusal.Refusal.{Refusal}
-use Rattle.line.specs.Meaning.{Meaning, Task}
+use Rattle.line.specs.Meaning.{Meaning}
 use Rattle.line.specs.Lawful.{Lawful, TaskLaws}
 use Rattle.line.specs.Shows.{show_answer, ShowDone, Shown}
 use Rattle.line.specs.Joins.{joined, side_of, SideShown}

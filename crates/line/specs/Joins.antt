@@ -1,8 +1,8 @@
 -- Two lines joined, the first one's places on top. Assumes nothing.
-use Rattle.std.specs.Prelude.{◌≡◌, ℕ, ◌+◌, ◌-◌, ◌≤◌, min, Bool, true, false, cond, List, Ok, Err, MatchBool, Result, nat_le, nat_lt}
+use Rattle.std.specs.Prelude.{◌≡◌, ℕ, ◌+◌, ◌-◌, ◌≤◌, min, cond, List, Ok, Err, MatchBool, Result, nat_le, nat_lt}
 use Rattle.line.specs.declared.refusal.Refusal.{Refusal}
 use Rattle.line.specs.declared.refusal.Refusal.TheVariants.{NoRoom, OutOfRange}
-use Rattle.line.specs.Meaning.{Task, Meaning}
+use Rattle.line.specs.Meaning.{Meaning}
 use Rattle.line.specs.Shows.{ShowDone}
 use Rattle.line.specs.declared.Line.{Ghosts}
 use Rattle.line.specs.declared.ExactLine.{Ghosts as Exacts}

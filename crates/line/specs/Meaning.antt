@@ -1,5 +1,5 @@
 -- What a line means: one value, from which its questions answer. Assumes nothing.
-use Rattle.std.specs.Prelude.{ℕ, Bool, true, false, cond, Some, None, Option, nat_le, nat_lt}
+use Rattle.std.specs.Prelude.{ℕ, cond, None, Option, nat_le, nat_lt}
 
 -- The modes of a task, numbered from 0. A mode has a cost, the most ticks that one job in it runs,
 -- and a deadline in ticks from release. Between two modes, in that order, there is a least gap

@@ -1,8 +1,8 @@
 -- What an exact line shows. Assumes nothing.
-use Rattle.std.specs.Prelude.{◌≡◌, ℕ, ◌≤◌, Bool, true, false, cond, ◌||◌, List, length, take, Ok, Err, Result, nat_le, nat_lt, slice_index}
+use Rattle.std.specs.Prelude.{◌≡◌, ℕ, ◌≤◌, cond, ◌||◌, List, length, take, Ok, Err, Result, nat_le, nat_lt, slice_index}
 use Rattle.line.specs.declared.refusal.Refusal.{Refusal}
 use Rattle.line.specs.declared.refusal.Refusal.TheVariants.{OutOfRange, TooShort, NotThere}
-use Rattle.line.specs.Meaning.{Graph, Task, Meaning, task_at}
+use Rattle.line.specs.Meaning.{Task, Meaning}
 use Rattle.line.specs.Walks.{Walk, Fits, work}
 
 -- The first n cells of the list are a walk that fits w and whose work is the task's most, and the later

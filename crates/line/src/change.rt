@@ -57,14 +57,14 @@ impl Change {
 
 /// Whether the mode `b` is another than `to`, and may follow the mode `from`.
 fn goes_else<L: Line>(line: &L, place: usize, from: usize, to: usize, b: usize) -> bool
-    ensures { result ≡ goes_else (task_at (meaning line.now) place).graph from to b }
+    ensures { result ≡ goes_else (task_at (L.meaning line.now) place).graph from to b }
 {
     b != to && line.gap(place, from, b).is_some()
 }
 
 /// Whether a mode other than `to` may follow the mode `from` of the task at a place.
 fn leads_else<L: Line>(line: &L, place: usize, from: usize, to: usize) -> bool
-    ensures { result ≡ leads_else (task_at (meaning line.now) place).graph from to (task_at (meaning line.now) place).graph.modes }
+    ensures { result ≡ leads_else (task_at (L.meaning line.now) place).graph from to (task_at (L.meaning line.now) place).graph.modes }
 {
     for b in 0..line.modes(place) {
         if goes_else(line, place, from, to, b) {
@@ -76,7 +76,7 @@ fn leads_else<L: Line>(line: &L, place: usize, from: usize, to: usize) -> bool
 
 /// Whether a mode may get a smaller cost.
 fn may_lower<L: Line>(line: &L, place: usize, mode: usize, cost: u32) -> Result<(), Refusal>
-    ensures { result ≡ lower_answer (task_at (meaning line.now) place).graph mode cost }
+    ensures { result ≡ lower_answer (task_at (L.meaning line.now) place).graph mode cost }
 {
     if mode >= line.modes(place) {
         return Err(Refusal::NotThere);
@@ -111,7 +111,7 @@ fn may_cut(stands: Option<u32>, other: bool) -> Result<(), Refusal>
 
 /// What the task at a place answers to a change.
 fn answer<L: Line>(line: &L, place: usize, change: Change) -> Result<(), Refusal>
-    ensures { result ≡ change_answer (task_at (meaning line.now) place).graph change }
+    ensures { result ≡ change_answer (task_at (L.meaning line.now) place).graph change }
 {
     match change {
         Change::Lower { mode, cost } => may_lower(line, place, mode, cost),
@@ -126,8 +126,8 @@ fn answer<L: Line>(line: &L, place: usize, change: Change) -> Result<(), Refusal
 /// Whether the task at a place may be changed: the mode or link is there, a cost gets smaller, a gap
 /// larger, and a link that is struck out is not the last one out of its mode.
 pub fn may_change<L: Line>(line: &L, place: usize, change: Change) -> Result<(), Refusal>
-    ensures answer { result ≡ change_answer (task_at (meaning line.now) place).graph change }
-    ensures other { LeadsElse (task_at (meaning line.now) place).graph }
+    ensures answer { result ≡ change_answer (task_at (L.meaning line.now) place).graph change }
+    ensures other { LeadsElse (task_at (L.meaning line.now) place).graph }
 {
     answer(line, place, change)
 }

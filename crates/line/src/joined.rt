@@ -55,11 +55,11 @@ impl<Top: Line, Low: Line> Joined<Top, Low> {
 }
 
 impl<Top: Line, Low: Line> Line for Joined<Top, Low> {
-    ghost meaning = { (joined_ghosts Top-as-Line Low-as-Line).meaning };
+    ghost meaning = { (joined_ghosts Top.Line Low.Line).meaning };
 
-    ghost lawful = { (joined_ghosts Top-as-Line Low-as-Line).lawful };
+    ghost lawful = { (joined_ghosts Top.Line Low.Line).lawful };
 
-    ghost keeps = { λ x h. joined_lawful (Top-as-Line.meaning x.0) (Low-as-Line.meaning x.1) (Top-as-Line.keeps x.0 h.top) (Low-as-Line.keeps x.1 h.low) };
+    ghost keeps = { λ x h. joined_lawful (Top.Line.meaning x.0) (Low.Line.meaning x.1) (Top.Line.keeps x.0 h.top) (Low.Line.keeps x.1 h.low) };
 
     fn count(&self) -> usize {
         self.0.count().saturating_add(self.1.count()).min(PLACES)
@@ -148,7 +148,7 @@ impl<Top: ExactLine, Low: ExactLine> Joined<Top, Low> {
 }
 
 impl<Top: ExactLine, Low: ExactLine> ExactLine for Joined<Top, Low> {
-    ghost leaves = { joined_leaves Top-as-Line Low-as-Line Top-as-ExactLine Low-as-ExactLine };
+    ghost leaves = { joined_leaves Top.Line Low.Line (record { leaves = Top.ExactLine.leaves }) (record { leaves = Low.ExactLine.leaves }) };
 
     fn show(
         &self,

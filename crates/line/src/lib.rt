@@ -5,6 +5,8 @@
 //! member `meaning`; the limits and laws that it keeps are the ghost predicate `lawful`.
 //! `ExactLine` is a line that also shows a walk whose work is that most. `Joined` puts one line
 //! below another. `Refusal` has the numbers with which every call of the library refuses.
+#![tactic(auto)]
+
 ghost use Rattle.std.specs.Prelude.{◌≡◌, ℕ, List};
 ghost use Rattle.line.specs.Meaning.{Meaning, task_at, modes_in, cost_in, deadline_in, gap_in, most_in};
 ghost use Rattle.line.specs.Lawful.{Lawful};

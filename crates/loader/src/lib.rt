@@ -1,4 +1,6 @@
 //! The table that a text builds, line by line, with the same checks as the bench's calls.
+#![tactic(auto)]
+
 ghost use Rattle.std.specs.Prelude.{◌≡◌, true};
 ghost use Rattle.editor.specs.Desks.{desk};
 ghost use Rattle.loader.specs.Ends.{appends};

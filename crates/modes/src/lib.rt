@@ -2,4 +2,6 @@
 //! them, in order, the least gap after which the second may follow the first, if it may.
 //!
 //! The graph is filled call by call, and each call refuses what the graph may not hold.
+#![tactic(auto)]
+
 pub mod graph;

@@ -1,4 +1,6 @@
 //! What the judging program writes of a text: the bound of every mode and the verdict, or the refusal.
+#![tactic(auto)]
+
 ghost use Rattle.std.specs.Prelude.{◌≡◌, ◌++◌, length, string_bytes, MatchResult};
 ghost use Rattle.line.specs.declared.refusal.Refusal.TheVariants.{NoMemory};
 ghost use Rattle.bench.specs.State.{state, after_judge};

@@ -30,8 +30,8 @@ use Rattle.response.proofs.Accounts.{Share, Own, Level, Sound, level_time, anew}
 use Rattle.response.proofs.Serving.{sound_later, sound_after, level_tick}
 
 -- Every mode has a bound.
-abbrev All-bounds : Meaning → Type 0
-All-bounds m = (p i : ℕ) → p < m.count → i < modes_in (task_at m p) → (r : ℕ) × Bound m p i r
+abbrev AllBounds : Meaning → Type 0
+AllBounds m = (p i : ℕ) → p < m.count → i < modes_in (task_at m p) → (r : ℕ) × Bound m p i r
 
 -- What a run of a line that fits keeps.
 record Good (m : Meaning) (s : Course) : Type 0 where
@@ -53,7 +53,7 @@ mode_place m p i h = elim (cases_lt p m.count) [ inl l ↦ l | inr l ↦ let e =
 busy_place : (m : Meaning) (os : List (Option Job)) (p : ℕ) (j : Job) → ((q : ℕ) → m.count ≤ q → left_of (job_at os q) ≡ 0) → job_at os p ≡ Some j → 0 < j.left → p < m.count
 busy_place m os p j out e l = elim (cases_lt p m.count) [ inl h ↦ h | inr h ↦ let z = out p h in let y = ap left_of e in absurd (omega arith) ]
 
-module _ (m : Meaning) (laws : Lawful m) (fits : All-bounds m) where
+module _ (m : Meaning) (laws : Lawful m) (fits : AllBounds m) where
   -- No place has work left at its deadline.
   none_misses : (now : ℕ) (os : List (Option Job)) → ((p : ℕ) → p < m.count → Sound m p now (job_at os p)) → ((p : ℕ) → m.count ≤ p → left_of (job_at os p) ≡ 0) → ((p : ℕ) → p < m.count → Level m now os p) → (p : ℕ) (j : Job) → Misses m now os p j → ⊥
   none_misses now os snd out lv p j x =
@@ -151,7 +151,7 @@ module _ (m : Meaning) (s : Course) (p i c : ℕ) (r : MayRelease m s p i c) whe
   own_new t f None z lt (inr a) = absurd a
   own_new t f (Some j) z lt (inr a) = let x = a.0 in absurd (omega arith)
 
-  module _ (laws : Lawful m) (fits : All-bounds m) (g : Good m s) where
+  module _ (laws : Lawful m) (fits : AllBounds m) (g : Good m s) where
     place : p < m.count
     place = mode_place m p i r.there
 
@@ -235,7 +235,7 @@ no_times zero k = refl
 no_times (suc n) zero = refl
 no_times (suc n) (suc k) = no_times n k
 
-module _ (m : Meaning) (laws : Lawful m) (fits : All-bounds m) where
+module _ (m : Meaning) (laws : Lawful m) (fits : AllBounds m) where
   good_release : (p i c : ℕ) (s : Course) → Good m s → Good m (after_release m s p i c)
   good_release p i c s g = by (is_ok (release_answer m s p i c)) refl (whole_release m s p i c g.whole)
     where

@@ -8,6 +8,8 @@
 //! new run, refused ones too, no advance reports a late job, and no job that finishes has taken
 //! longer than the bound of its mode. A line that asks for no more than another has no greater
 //! bounds, and fits if that one does.
+#![tactic(auto)]
+
 ghost use Rattle.std.specs.Prelude.{◌≡◌, length, IfOk, OnOk};
 ghost use Rattle.response.specs.Verdicts.{as_verdict, judge_answer, judged_cells};
 ghost use Rattle.response.specs.Judgements.{Judged};

@@ -7,7 +7,7 @@ use Rattle.run.specs.declared.Job.{Job}
 use Rattle.run.specs.declared.Late.{Late}
 use Rattle.run.specs.Course.{Course, job_at, left_of, worst_at}
 use Rattle.run.specs.Ticks.{idle_above, less, served, raised, noted, due_at, late_in, or_else, first_late, ticked}
-use Rattle.run.specs.Rules.{Whole, Served, Finishes, Misses, LateNow, Tick, Tick-by-rules}
+use Rattle.run.specs.Rules.{Whole, Served, Finishes, Misses, LateNow, Tick, TickByRules}
 use Rattle.run.proofs.Slots.{same_course, idle_none, idle_some, idle_is, job_within, given_same, given_cases}
 
 -- The place that is served is the first with work left.
@@ -268,7 +268,7 @@ module _ (m : Meaning) (s t u : Course) (a : Tick m s t) (b : Tick m s u) where
       let late : t.late ≡ u.late = one_late m u.clock u.jobs t.late u.late (subst (λ j. LateNow m u.clock j t.late) jobs (subst (λ c. LateNow m c t.jobs t.late) clock a.late)) b.late in
       same_course t.clock u.clock t.jobs u.jobs t.worst u.worst t.late u.late clock jobs worst late
 
-pub tick_by_rules : Tick-by-rules
+pub tick_by_rules : TickByRules
 tick_by_rules m s t w = (
   λ a. one_tick m s t (ticked m s) a (tick_ruled m s w),
   λ e. subst (Tick m s) (sym e) (tick_ruled m s w),

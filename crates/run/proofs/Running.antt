@@ -11,7 +11,7 @@ use Rattle.run.specs.declared.Late.{Late}
 use Rattle.run.specs.Course.{Course, fresh, job_at}
 use Rattle.run.specs.Ticks.{idle_above, less, served, ticked, after_ticks}
 use Rattle.run.specs.Calls.{passed, ready, release_answer, released, after_release, may_advance, Call, release, advance, after_call, after_calls}
-use Rattle.run.specs.Rules.{Whole, Passes, over, ended, tick, MayRelease, Release, MayAdvance, Step, gives, refuses, goes, stays, Runs, done, then, Runs-by-rules}
+use Rattle.run.specs.Rules.{Whole, Passes, over, ended, tick, MayRelease, Release, MayAdvance, Step, gives, refuses, goes, stays, Runs, done, then, RunsByRules}
 use Rattle.run.proofs.Slots.{same_course, given_cases, given_other}
 use Rattle.run.proofs.Calms.{ticks_done, ticks_late, ticks_more}
 use Rattle.run.proofs.Ruling.{noted_long, tick_ruled, tick_by_rules}
@@ -226,7 +226,7 @@ runs_made : (m : Meaning) (cs : List Call) (s : Course) → Whole s → Runs m c
 runs_made m [] s w = done
 runs_made m (c ∷ cs) s w = then (step_made m c s w) (runs_made m cs (after_call m c s) (whole_call m c s w))
 
-pub runs_by_rules : Runs-by-rules
+pub runs_by_rules : RunsByRules
 runs_by_rules m cs t = (
   λ r. runs_only m whole_fresh r,
   λ e. subst (Runs m cs fresh) (sym e) (runs_made m cs fresh whole_fresh),

@@ -103,9 +103,9 @@ pub data Runs (m : Meaning) : List Call → Course → Course → Type 0 where
   then : {c : Call} {cs : List Call} {s t u : Course} → Step m c s t → Runs m cs t u → Runs m (c ∷ cs) s u
 
 -- The computed tick is the one that the rules allow, and no other is.
-abbrev pub Tick-by-rules : Type 0
-Tick-by-rules = (m : Meaning) (s t : Course) → Whole s → (Tick m s t → t ≡ ticked m s) × (t ≡ ticked m s → Tick m s t)
+abbrev pub TickByRules : Type 0
+TickByRules = (m : Meaning) (s t : Course) → Whole s → (Tick m s t → t ≡ ticked m s) × (t ≡ ticked m s → Tick m s t)
 
 -- The runs that the rules allow from the start are the computed ones.
-abbrev pub Runs-by-rules : Type 0
-Runs-by-rules = (m : Meaning) (cs : List Call) (t : Course) → (Runs m cs fresh t → t ≡ after_calls m cs fresh) × (t ≡ after_calls m cs fresh → Runs m cs fresh t)
+abbrev pub RunsByRules : Type 0
+RunsByRules = (m : Meaning) (cs : List Call) (t : Course) → (Runs m cs fresh t → t ≡ after_calls m cs fresh) × (t ≡ after_calls m cs fresh → Runs m cs fresh t)

@@ -4,10 +4,12 @@
 //! unit, and then the clock moves by one. A job whose work reaches 0 has finished; the run keeps
 //! the longest time for each place and mode. Only then the highest place with work left whose
 //! release plus deadline equals the clock is late, and the run has ended.
+#![tactic(auto)]
+
 ghost use Rattle.std.specs.Prelude.{◌≡◌};
 ghost use Rattle.run.specs.Course.{course, fresh};
 ghost use Rattle.run.specs.Calls.{release_answer, after_release, may_advance, advance_answer, after_advance, worst_answer};
-ghost use Rattle.run.specs.Rules.{Tick-by-rules, Runs-by-rules};
+ghost use Rattle.run.specs.Rules.{TickByRules, RunsByRules};
 
 use line::Line;
 use line::limits::{MODES, PLACES, WINDOW};
@@ -64,8 +66,8 @@ impl Play {
     /// A run at clock 0 with no job.
     pub fn new() -> Play
         ensures state { course result ≡ fresh }
-        ensures tick { Tick-by-rules }
-        ensures runs { Runs-by-rules }
+        ensures tick { TickByRules }
+        ensures runs { RunsByRules }
     {
         Play::blank()
     }

@@ -1,4 +1,6 @@
 //! The sporadic task: one mode that follows itself after a period, an exact line of one place.
+#![tactic(auto)]
+
 ghost use Rattle.std.specs.Prelude.{◌≡◌, ◌≤◌, ◌++◌, length, drop, replicate, Ok};
 ghost use Rattle.line.specs.Changes.{change_numbers, change_answer};
 ghost use Rattle.line.specs.Answers.{MadeBy};

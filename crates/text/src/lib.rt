@@ -1,4 +1,6 @@
 //! Reading the lines of a table's text in the caller's bytes; no word is copied.
 //!
 //! A last line without its line feed has no form. Bytes may have any value.
+#![tactic(auto)]
+
 pub mod reader;

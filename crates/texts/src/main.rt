@@ -1,5 +1,7 @@
 //! Writes the report of each text on standard input. A text comes as a line with its length in
 //! bytes, the bytes, and a line feed.
+#![tactic(auto)]
+
 use anyhow::anyhow;
 use report::report;
 use std::io::Read;
