@@ -6,6 +6,6 @@ use Rattle.report.proofs.add_modes.Goals as goal
 
 pub loop-mode-preserved : goal.loop-mode-preserved
 loop-mode-preserved c =
-    more_modes c.number-at-task.result (bound_shown (state c.args.bench.now) c.number-at-task.result) c.loop-mode.mode c.bound-shown.result
-    (string_bytes c.args.out.now) (string_bytes c.loop-mode.out) c.as-str.result.now (string_bytes c.push-str.new.self)
-    c.loop-mode.invariant c.bound-shown.ensures (c.as-str.ensures.value ∙ c.in-ok-line.ensures) c.in-ok-push-str.ensures.bytes
+    more_modes c.number_at-task.result (bound_shown (state c.args.bench.now) c.number_at-task.result) c.loop-mode.mode c.bound_shown.result
+    (string_bytes c.args.out.now) (string_bytes c.loop-mode.out) c.as_str.result.now (string_bytes c.push_str.new.self)
+    c.loop-mode.invariant c.bound_shown.ensures (c.as_str.ensures.value ∙ c.in_ok-line.ensures) c.in_ok-push_str.ensures.bytes

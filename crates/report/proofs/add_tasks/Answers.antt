@@ -5,4 +5,4 @@ use Rattle.report.proofs.add_tasks.Goals as goal
 
 pub loop-place-preserved : goal.loop-place-preserved
 loop-place-preserved c =
-    more_tasks (state c.args.bench.now) c.loop-place.place (string_bytes c.args.out.now) (string_bytes c.loop-place.out) (string_bytes c.add-modes.new.out) c.loop-place.invariant c.in-ok-add-modes.ensures
+    more_tasks (state c.args.bench.now) c.loop-place.place (string_bytes c.args.out.now) (string_bytes c.loop-place.out) (string_bytes c.add_modes.new.out) c.loop-place.invariant c.in_ok-add_modes.ensures

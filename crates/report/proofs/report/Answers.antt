@@ -5,10 +5,10 @@ use Rattle.report.proofs.report.Goals as goal
 
 pub returns-in-Ok : goal.returns-in-Ok
 returns-in-Ok c =
-    reports_table c.args.text.now c.deref-mut.result.now c.load.new.sheet (state c.in-ok-bench.bench) (state c.load.new.bench) c.judged.result
-    c.in-ok-bench.ensures c.in-Ok.ensures.done c.judged.ensures
+    reports_table c.args.text.now c.deref_mut.result.now c.load.new.sheet (state c.in_ok-bench.bench) (state c.load.new.bench) c.judged.result
+    c.in_ok-bench.ensures c.in-Ok.ensures.done c.judged.ensures
 
 pub returns : goal.returns
 returns c =
-    reports_fault c.args.text.now c.deref-mut.result.now (state c.in-ok-bench.bench) c.in-Err.fault c.refused.result
-    c.in-ok-bench.ensures (search rules) c.in-Err.ensures.done.0 c.refused.ensures
+    reports_fault c.args.text.now c.deref_mut.result.now (state c.in_ok-bench.bench) c.in-Err.fault c.refused.result
+    c.in_ok-bench.ensures (search rules) c.in-Err.ensures.done.0 c.refused.ensures

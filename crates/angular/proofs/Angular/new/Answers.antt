@@ -7,15 +7,15 @@ use Rattle.angular.proofs.Shows.{row_refilled}
 use Rattle.angular.proofs.Walks.{most_is}
 use Rattle.angular.proofs.Angular.new.Goals as goal
 
-pub invariant-of-result : goal.invariant-of-result
-invariant-of-result c = (
+pub invariant_of-result : goal.invariant_of-result
+invariant_of-result c = (
   whole_some (plan c.args.graph) c.requires.whole,
   (
     ap is_ok c.requires.whole,
     (
       c.requires.wide,
       (
-        row_refilled (graph_of (plan c.args.graph)) c.args.row c.write-row.new.row (omega (arith, c.write-row.auto.row, c.deref-mut.ensures.len)) c.write-row.ensures,
+        row_refilled (graph_of (plan c.args.graph)) c.args.row c.write_row.new.row (omega (arith, c.write_row.auto.row, c.deref_mut.ensures.len)) c.write_row.ensures,
         tt,
       ),
     ),
@@ -25,7 +25,7 @@ invariant-of-result c = (
 pub returns : goal.returns
 returns c =
     let G = graph_of (plan c.args.graph) in
-    let row = row_refilled G c.args.row c.write-row.new.row (omega (arith, c.write-row.auto.row, c.deref-mut.ensures.len)) c.write-row.ensures in
+    let row = row_refilled G c.args.row c.write_row.new.row (omega (arith, c.write_row.auto.row, c.deref_mut.ensures.len)) c.write_row.ensures in
     record {
       same = refl;
       most = λ w h. subst (Most G w) (sym (row w h)) (most_is G (graph_laws c.args.graph (whole_some (plan c.args.graph) c.requires.whole)) w);

@@ -16,8 +16,8 @@ is c =
     cell_is (graph_of (plan c.args.graph.now)) c.args.sheet.now c.args.m c.args.w _ _ (laws c) c.requires.from (omega arith) c.requires.before
     c.cost.ensures c.follow.ensures
 
-pub overflow-add-result : goal.overflow-add-result
-overflow-add-result c = omega (arith, greatest_bounded _ _ _ _ (laws c) (is c), c.requires.window)
+pub overflow_add-result : goal.overflow_add-result
+overflow_add-result c = omega (arith, greatest_bounded _ _ _ _ (laws c) (is c), c.requires.window)
 
 pub returns-then-w-eq0 : goal.returns-then-w-eq0
 returns-then-w-eq0 c =

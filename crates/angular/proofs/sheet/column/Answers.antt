@@ -14,7 +14,7 @@ loop-m-preserved c =
     let w = c.args.w in
     let v = c.cell-work.result in
     let i = c.loop-m.invariant in
-    let e = sym c.put-cell.ensures in (
+    let e = sym c.put_cell.ensures in (
       subst (λ x. FilledTo G x w) e (put_before G s m w v c.requires.window i.0),
       subst (λ x. ColumnTo G x w (m + 1)) e (put_row G s m w v c.requires.window (omega (arith, g.few, g.modes.ok.0)) i.1 c.cell-work.ensures),
       subst (Kept G.modes c.args.sheet.now) e (put_kept G s m w v c.requires.window c.args.sheet.now (omega arith) i.2),

@@ -5,7 +5,7 @@ use Rattle.angular.specs.Sheets.{cell_at}
 use Rattle.modes.proofs.Plans.{gap_between}
 use Rattle.angular.proofs.Shows.{Picked, keeps_none, keeps_far, keeps_less, takes}
 use Rattle.angular.proofs.show.onward.Goals as goal
-use Rattle.angular.proofs.show.onward.Goals.{in-Some+then-g-w+then-most-there, in-Some+then-g-w+else-most-there, in-Some+else-g-w, in-default}
+use Rattle.angular.proofs.show.onward.Goals.{in-Some+then-g-w+then-most-there, in-Some+then-g-w+else-most-there, in-Some+else-g-w, in_default}
 
 pub loop-b-preserved : goal.loop-b-preserved
 loop-b-preserved c =
@@ -23,14 +23,14 @@ loop-b-preserved c =
     elim c.match-gap.branch [
       | in-Some+then-g-w+then-most-there y ↦
           subst₂ (Picked G F m w (b + 1)) (sym y.most-is) (sym y.pick-is)
-          (takes G F m w b v y.in-Some.g y.cell-at-there.result k lb i (is ∙ sym y.in-Some.ensures) y.if-g-w.true y.cell-at-there.ensures y.if-most-there.true)
+          (takes G F m w b v y.in-Some.g y.cell_at-there.result k lb i (is ∙ sym y.in-Some.ensures) y.if-g-w.true y.cell_at-there.ensures y.if-most-there.true)
       | in-Some+then-g-w+else-most-there y ↦
           subst₂ (Picked G F m w (b + 1)) (sym y.most-is) (sym y.pick-is)
-          (keeps_less G F m w b v y.in-Some.g y.cell-at-there.result k i (is ∙ sym y.in-Some.ensures) y.if-g-w.true y.cell-at-there.ensures y.if-most-there.false)
+          (keeps_less G F m w b v y.in-Some.g y.cell_at-there.result k i (is ∙ sym y.in-Some.ensures) y.if-g-w.true y.cell_at-there.ensures y.if-most-there.false)
       | in-Some+else-g-w y ↦
           subst₂ (Picked G F m w (b + 1)) (sym y.most-is) (sym y.pick-is)
           (keeps_far G F m w b v y.in-Some.g k i (is ∙ sym y.in-Some.ensures) y.if-g-w.false)
-      | in-default y ↦
+      | in_default y ↦
           subst₂ (Picked G F m w (b + 1)) (sym y.most-is) (sym y.pick-is)
-          (keeps_none G F m w b v k i (is ∙ (sym c.gap.ensures ∙ y.in-default.is)))
+          (keeps_none G F m w b v k i (is ∙ (sym c.gap.ensures ∙ y.in_default.is)))
     ]

@@ -11,4 +11,4 @@ loop-w-preserved c =
     let G = graph_of (plan g) in
     let w = c.loop-w.w in
     let top = start_most G c.args.sheet.now w c.start-m.result (graph_laws g c.requires.some) (omega arith) c.requires.filled c.start-m.ensures.mode c.start-m.ensures.top in
-    row_more G w _ c.loop-w.row (omega arith) c.loop-w.invariant (c.cell-at.ensures ∙ top)
+    row_more G w _ c.loop-w.row (omega arith) c.loop-w.invariant (c.cell_at.ensures ∙ top)

@@ -13,5 +13,5 @@ returns c =
     let same = ap (λ s. joined (guarded_line s) below) parts.0 ∙ ap (λ t. joined (guarded_line c.args.own) (line_of (items t))) parts.1 in
     let d =
     judged_beside (guarded_line c.args.own) (line_of (items c.args.table)) _ _ c.args.cells.now c.judge.new.cells c.judge.result same
-    c.in-ok-may-join.ensures (omega arith) c.judge.ensures.answer c.judge.ensures.cells c.judge.ensures.judged in
+    c.in_ok-may_join.ensures (omega arith) c.judge.ensures.answer c.judge.ensures.cells c.judge.ensures.judged in
     record { answer = d.0; cells = d.1; judged = d.2 }

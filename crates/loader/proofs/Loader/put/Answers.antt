@@ -7,5 +7,5 @@ pub returns : goal.returns
 returns c = record {
   step = search rules;
   sheet = λ now first. put_last (desk c.args.self.now.editor) c.args.number c.args.cost c.args.period c.args.deadline (desk c.put.new.self) _
-      c.in-ok-put.ensures.answer c.in-ok-put.ensures.after first now;
+      c.in_ok-put.ensures.answer c.in_ok-put.ensures.after first now;
 }

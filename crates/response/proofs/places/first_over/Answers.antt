@@ -18,17 +18,17 @@ returns-in-Some g c =
     let i = c.in-Some.mode in
     let found = c.in-Some.ensures.over in
     let over = line_here m (m.count - p) p (omega (arith, c.count-count.ensures)) c.loop-place.invariant.0 i found in
-    record { over = sym over; shows = shows_stop m p i c.args.cells.now c.loop-place.cells c.judge-place.new.cells found over c.loop-place.invariant.2 c.judge-place.ensures.shows }
+    record { over = sym over; shows = shows_stop m p i c.args.cells.now c.loop-place.cells c.judge_place.new.cells found over c.loop-place.invariant.2 c.judge_place.ensures.shows }
 
 pub loop-place-preserved : goal.loop-place-preserved
 loop-place-preserved g c =
     let m = g.L.Line.meaning c.args.line.now in
     let laws = g.met.L.Line.keeps c.args.line.now c.requires.lawful in
     let p = c.loop-place.place in
-    let none = c.in-default.ensures.over in
+    let none = c.in_default.ensures.over in
     let same : p ≡ p + 1 - 1 = omega arith in
     let inside : p < 16 = omega (arith, c.count-count.ensures, laws.few) in (
       line_later m (m.count - p) p (omega (arith, c.count-count.ensures)) c.loop-place.invariant.0 (m.count - (p + 1)) (omega arith) none,
-      subst (λ k. Sums m k c.add-above.new.sums) same c.add-above.ensures,
-      shows_next m p c.args.cells.now c.loop-place.cells c.judge-place.new.cells none (λ n h. c.requires.zeros n (omega arith)) (modes_at m laws p) c.loop-place.invariant.2 c.judge-place.ensures.shows,
+      subst (λ k. Sums m k c.add_above.new.sums) same c.add_above.ensures,
+      shows_next m p c.args.cells.now c.loop-place.cells c.judge_place.new.cells none (λ n h. c.requires.zeros n (omega arith)) (modes_at m laws p) c.loop-place.invariant.2 c.judge_place.ensures.shows,
     )

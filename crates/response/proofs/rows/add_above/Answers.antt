@@ -2,8 +2,8 @@ use Rattle.std.proofs.Common.{◌-◌, arith}
 use Rattle.response.proofs.Adding.{sum_fits, sums_more, sums_left}
 use Rattle.response.proofs.rows.add_above.Goals as goal
 
-pub add-at-requires : goal.add-at-requires
-add-at-requires g c =
+pub add_at-requires : goal.add_at-requires
+add_at-requires g c =
     let line = c.args.line.now in
     let old = c.loop-window.invariant.1 c.loop-window.window (omega arith) (omega arith) in
     record {
@@ -16,6 +16,6 @@ pub loop-window-preserved : goal.loop-window-preserved
 loop-window-preserved g c =
     let m = g.L.Line.meaning c.args.line.now in
     let old = c.loop-window.invariant.1 c.loop-window.window (omega arith) (omega arith) in (
-      sums_more m (c.args.place - 1) c.args.place c.loop-window.window c.loop-window.sums (omega arith) old c.add-at.new.sums c.add-at.ensures (omega (arith, c.requires.row.long)) c.loop-window.invariant.0,
-      sums_left m (c.args.place - 1) c.args.place c.loop-window.window c.loop-window.sums (omega arith) old c.add-at.new.sums c.add-at.ensures c.loop-window.invariant.1,
+      sums_more m (c.args.place - 1) c.args.place c.loop-window.window c.loop-window.sums (omega arith) old c.add_at.new.sums c.add_at.ensures (omega (arith, c.requires.row.long)) c.loop-window.invariant.0,
+      sums_left m (c.args.place - 1) c.args.place c.loop-window.window c.loop-window.sums (omega arith) old c.add_at.new.sums c.add_at.ensures c.loop-window.invariant.1,
     )

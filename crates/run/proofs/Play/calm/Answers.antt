@@ -12,7 +12,7 @@ returns g c =
     let s = course c.args.self.now in
     let slot : c.if-place-lt-PLACES.slot ≡ job_at s.jobs (idle_above s.jobs) =
     elim c.if-place-lt-PLACES.branch [
-      | then-place-lt-PLACES w ↦ w.slot-is ∙ ap (job_at s.jobs) c.idle-above-place.ensures
+      | then-place-lt-PLACES w ↦ w.slot-is ∙ ap (job_at s.jobs) c.idle_above-place.ensures
       | else-place-lt-PLACES w ↦ w.slot-is ∙ sym (job_past s.jobs (idle_above s.jobs) (omega (arith, w.if-place-lt-PLACES.false)))
     ] in
-    c.undue-all.ensures ∙ ap (undue_all m s.clock 0 s.jobs) (c.unfinished.ensures ∙ ap (λ o. unfinished o c.args.limit) slot)
+    c.undue_all.ensures ∙ ap (undue_all m s.clock 0 s.jobs) (c.unfinished.ensures ∙ ap (λ o. unfinished o c.args.limit) slot)

@@ -15,7 +15,7 @@ pub loop-i-preserved : goal.loop-i-preserved
 loop-i-preserved g c =
     let m = g.L.Line.meaning c.args.line.now in
     let f = at_drop_more (first_late m c.args.clock c.loop-i.i) c.args.jobs.now c.loop-i.i None c.loop-i-test.true in
-    let h = late_next m c.args.clock c.loop-i.i (get_or c.args.jobs.now c.loop-i.i None) (drop (c.loop-i.i + 1) c.args.jobs.now) (sym c.in-default.ensures) in
+    let h = late_next m c.args.clock c.loop-i.i (get_or c.args.jobs.now c.loop-i.i None) (drop (c.loop-i.i + 1) c.args.jobs.now) (sym c.in_default.ensures) in
     sym (f ∙ h) ∙ c.loop-i.invariant
 
 pub returns : goal.returns

@@ -16,11 +16,11 @@ pub loop-slot-preserved : goal.loop-slot-preserved
 loop-slot-preserved c =
     let f = slot_of (items c.args.table.now) c.args.place in
     let n = c.loop-slot.slot in
-    elim c.match-line-at.branch [
+    elim c.match-line_at.branch [
       | goal.in-Some w ↦
           let e = ap length (slot_spelled f n w.in-Some.form w.in-Some.ensures) ∙ length-append (spelled (slots_to f n)) (spell w.in-Some.form) in
-          (omega (arith, w.len-is, w.form-len-len.ensures.is, c.loop-slot.invariant.0), omega (arith, w.len-is, w.form-len-len.ensures.short, c.loop-slot.invariant.1))
-      | goal.in-default w ↦ (w.len-is ∙ c.loop-slot.invariant.0 ∙ sym (ap length (slot_empty f n w.in-default.ensures)), omega (arith, w.len-is, c.loop-slot.invariant.1))
+          (omega (arith, w.len-is, w.form_len-len.ensures.is, c.loop-slot.invariant.0), omega (arith, w.len-is, w.form_len-len.ensures.short, c.loop-slot.invariant.1))
+      | goal.in_default w ↦ (w.len-is ∙ c.loop-slot.invariant.0 ∙ sym (ap length (slot_empty f n w.in_default.ensures)), omega (arith, w.len-is, c.loop-slot.invariant.1))
     ]
 
 pub returns : goal.returns

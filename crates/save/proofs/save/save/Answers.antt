@@ -14,7 +14,7 @@ returns c =
     let a = table_together t in
     let b = table_rights t in
     record {
-      done = subst (λ (is : List Item). SaveDone is c.args.out.now c.save-table.new.out c.save-table.result) c.table.ensures c.save-table.ensures;
+      done = subst (λ (is : List Item). SaveDone is c.args.out.now c.save_table.new.out c.save_table.result) c.table.ensures c.save_table.ensures;
       back = reads_back (items t) a b;
       only = reads_only (items t) a b;
       loads = loads_back (items t) (reads_only (items t) a b) (text_short (items t) a b);

@@ -10,24 +10,24 @@ use Rattle.save.proofs.Short.{lines_short}
 use Rattle.save.proofs.Spelling.{text_long, saved, room_there, room_lacks}
 use Rattle.save.proofs.save.save_table.Goals as goal
 
-pub overflow-add-extent : goal.overflow-add-extent
-overflow-add-extent c =
+pub overflow_add-extent : goal.overflow_add-extent
+overflow_add-extent c =
     let t = c.args.table.now in
-    omega (arith, c.measure-extent.ensures.len, c.form-len.ensures.short, lines_short (items t) (table_together t) (table_rights t))
+    omega (arith, c.measure-extent.ensures.len, c.form_len.ensures.short, lines_short (items t) (table_together t) (table_rights t))
 
-pub returns-in-err-check-room : goal.returns-in-err-check-room
-returns-in-err-check-room c =
-    let p = err_from_is_err_and c.from-residual.result c.from-residual.ensures.1 in
-    let q = room_lacks (c.measure-extent.result.len + c.form-len.result) (length c.args.out.now) c.in-err-check-room.field-0.0 c.in-err-check-room.ensures in
+pub returns-in_err-check_room : goal.returns-in_err-check_room
+returns-in_err-check_room c =
+    let p = err_from_is_err_and c.from_residual.result c.from_residual.ensures.1 in
+    let q = room_lacks (c.measure-extent.result.len + c.form_len.result) (length c.args.out.now) c.in_err-check_room.field-0.0 c.in_err-check_room.ensures in
     let e = ap (λ (f : Form). length (spell f)) c.trailer-end.ensures in
-    rw (p.1, p.2) (q.0, omega (arith, q.1, text_long (items c.args.table.now), c.measure-extent.ensures.len, c.form-len.ensures.is), refl)
+    rw (p.1, p.2) (q.0, omega (arith, q.1, text_long (items c.args.table.now), c.measure-extent.ensures.len, c.form_len.ensures.is), refl)
 
 pub returns : goal.returns
 returns c =
     let is = items c.args.table.now in
-    saved is c.args.out.now c.write-tasks.new.out c.write-form.new.out c.in-ok-at.at c.write-form.result c.ok-or-2.result c.trailer-end.result
+    saved is c.args.out.now c.write_tasks.new.out c.write_form.new.out c.in_ok-at.at c.write_form.result c.ok_or-2.result c.trailer-end.result
     c.trailer-end.ensures
-    (omega (arith, c.measure-extent.ensures.len, c.form-len.ensures.is, room_there (c.measure-extent.result.len + c.form-len.result) (length c.args.out.now) c.in-ok-check-room.ensures))
-    (subst (λ (o : Option ℕ). MatchOption o ⊥ (λ end. Wrote c.args.out.now 0 (spelled (forms_of is)) c.write-tasks.new.out end)) c.in-ok-at.ensures.ok-part c.write-tasks.ensures)
-    c.write-form.ensures
-    c.ok-or-2.ensures.value
+    (omega (arith, c.measure-extent.ensures.len, c.form_len.ensures.is, room_there (c.measure-extent.result.len + c.form_len.result) (length c.args.out.now) c.in_ok-check_room.ensures))
+    (subst (λ (o : Option ℕ). MatchOption o ⊥ (λ end. Wrote c.args.out.now 0 (spelled (forms_of is)) c.write_tasks.new.out end)) c.in_ok-at.ensures.ok-part c.write_tasks.ensures)
+    c.write_form.ensures
+    c.ok_or-2.ensures.value

@@ -11,8 +11,8 @@ use Rattle.save.proofs.write.write_tasks.Goals as goal
 pub loop-place-init : goal.loop-place-init
 loop-place-init c = wrote_none c.args.out.now 0 (omega arith)
 
-pub write-task-requires : goal.write-task-requires
-write-task-requires c =
+pub write_task-requires : goal.write_task-requires
+write_task-requires c =
     let is = items c.args.table.now in
     let k = c.loop-place.place in
     let lt : k < length is = omega (arith, c.len-place-end.ensures) in
@@ -23,9 +23,9 @@ loop-place-preserved c =
     let is = items c.args.table.now in
     let k = c.loop-place.place in
     let lt : k < length is = omega (arith, c.len-place-end.ensures) in
-    subst (λ (l : List ℕ). Wrote c.args.out.now 0 l c.write-task.new.out c.in-ok-end.end)
+    subst (λ (l : List ℕ). Wrote c.args.out.now 0 l c.write_task.new.out c.in_ok-end.end)
     (sym (text_more is k lt))
-    (wrote_more c.loop-place.invariant c.in-ok-end.ensures)
+    (wrote_more c.loop-place.invariant c.in_ok-end.ensures)
 
 pub returns : goal.returns
 returns c =

@@ -2,19 +2,19 @@ use Rattle.std.proofs.Common.{length, sym, refl, arith}
 use Rattle.sporadic.proofs.Sporadics.{show_passed, releases_most, even_shown}
 use Rattle.sporadic.proofs.SporadicExactLine.show.Goals as goal
 
-pub write-jobs-requires : goal.write-jobs-requires
-write-jobs-requires c =
+pub write_jobs-requires : goal.write_jobs-requires
+write_jobs-requires c =
     let s = c.args.self.now in
-    let ok = show_passed 1 c.args.place c.args.window (length c.args.sheet.now) (length c.args.list.now) _ c.in-ok-may-show.ensures in
+    let ok = show_passed 1 c.args.place c.args.window (length c.args.sheet.now) (length c.args.list.now) _ c.in_ok-may_show.ensures in
     let few = releases_most c.args.window s.period (omega (arith, s.some, s.fits, s.first)) in
     omega (arith, ok.1, ok.3, few, c.releases-jobs.ensures)
 
 pub returns : goal.returns
 returns c =
     let s = c.args.self.now in
-    let passed = c.in-ok-may-show.ensures in
+    let passed = c.in_ok-may_show.ensures in
     let ok = show_passed 1 c.args.place c.args.window (length c.args.sheet.now) (length c.args.list.now) _ passed in (
       sym passed,
-      even_shown s.cost s.period s.deadline (omega arith) c.args.window c.releases-jobs.result ok.1 c.args.list.now _ c.releases-jobs.ensures c.write-jobs.ensures,
+      even_shown s.cost s.period s.deadline (omega arith) c.args.window c.releases-jobs.result ok.1 c.args.list.now _ c.releases-jobs.ensures c.write_jobs.ensures,
       refl,
     )

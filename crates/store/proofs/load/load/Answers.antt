@@ -7,18 +7,18 @@ use Rattle.store.proofs.load.load.Goals as goal
 
 pub returns : goal.returns
 returns c =
-    let t = c.in-ok-table.ensures in
+    let t = c.in_ok-table.ensures in
     record {
-      done = loaded (state c.args.bench.now) c.args.text.now c.args.sheet.now (items c.in-ok-table.table) (state c.install.new.self) (vec_items c.in-ok-copy.copy) (vec_items c.in-ok-table.filled) c.copy-from-slice.new.self
-          c.in-ok-may-load.ensures c.in-ok-copy.ensures t.0.0 t.0.1 c.install.ensures.after (c.copy-from-slice.ensures.after ∙ c.deref.ensures.value);
+      done = loaded (state c.args.bench.now) c.args.text.now c.args.sheet.now (items c.in_ok-table.table) (state c.install.new.self) (vec_items c.in_ok-copy.copy) (vec_items c.in_ok-table.filled) c.copy_from_slice.new.self
+          c.in_ok-may_load.ensures c.in_ok-copy.ensures t.0.0 t.0.1 c.install.ensures.after (c.copy_from_slice.ensures.after ∙ c.deref.ensures.value);
       once = reads_once c.args.text.now;
     }
 
-pub returns-in-err-may-load : goal.returns-in-err-may-load
-returns-in-err-may-load c = record { done = search rules; once = reads_once c.args.text.now }
+pub returns-in_err-may_load : goal.returns-in_err-may_load
+returns-in_err-may_load c = record { done = search rules; once = reads_once c.args.text.now }
 
-pub returns-in-err-copy : goal.returns-in-err-copy
-returns-in-err-copy c = record { done = search rules; once = reads_once c.args.text.now }
+pub returns-in_err-copy : goal.returns-in_err-copy
+returns-in_err-copy c = record { done = search rules; once = reads_once c.args.text.now }
 
-pub returns-in-err-table : goal.returns-in-err-table
-returns-in-err-table c = record { done = search rules; once = reads_once c.args.text.now }
+pub returns-in_err-table : goal.returns-in_err-table
+returns-in_err-table c = record { done = search rules; once = reads_once c.args.text.now }

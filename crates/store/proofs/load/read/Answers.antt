@@ -10,7 +10,7 @@ use Rattle.store.proofs.load.read.Goals as goal
 pub returns-in-Err : goal.returns-in-Err
 returns-in-Err c =
     let s = at c.loop-reader.reader in
-    let some : 0 < length (rest_of s) = grind (arith, nat_tests, c.is-done.ensures, c.loop-reader-test.true) in
+    let some : 0 < length (rest_of s) = grind (arith, nat_tests, c.is_done.ensures, c.loop-reader-test.true) in
     line_refused c.args.text.now s (progress c.loop-reader.loader) c.loop-reader.invariant.0 c.in-Err.fault (at c.next.new.reader) (progress c.next.new.self) some c.in-Err.ensures.step c.at.result
     (c.at.ensures ∙ ap (λ n. placed c.in-Err.fault n c.place-place.result) c.line-line.ensures ∙ ap (placed c.in-Err.fault s.line) c.place-place.ensures)
 
@@ -32,5 +32,5 @@ loop-reader-preserved c = (
 pub returns : goal.returns
 returns c =
     let s = at c.loop-reader.reader in
-    let none : length (rest_of s) ≡ 0 = grind (arith, nat_tests, c.is-done.ensures, c.loop-reader-test.false) in
-    inl (text_ended c.args.text.now s (progress c.loop-reader.loader) c.loop-reader.invariant.0 none c.no-trailer.result c.no-trailer.ensures)
+    let none : length (rest_of s) ≡ 0 = grind (arith, nat_tests, c.is_done.ensures, c.loop-reader-test.false) in
+    inl (text_ended c.args.text.now s (progress c.loop-reader.loader) c.loop-reader.invariant.0 none c.no_trailer.result c.no_trailer.ensures)

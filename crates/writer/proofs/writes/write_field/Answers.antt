@@ -3,14 +3,14 @@ use Rattle.std.proofs.lemmas.List.{length-set}
 use Rattle.writer.proofs.Writing.{wrote_more, wrote_one}
 use Rattle.writer.proofs.writes.write_field.Goals as goal
 
-pub write-number-requires : goal.write-number-requires
-write-number-requires c =
-    let l = ap length c.write-space-place.ensures.bytes ∙ length-set c.args.out.now c.args.at 32 in
-    omega (arith, l, c.write-space-place.ensures.end)
+pub write_number-requires : goal.write_number-requires
+write_number-requires c =
+    let l = ap length c.write_space-place.ensures.bytes ∙ length-set c.args.out.now c.args.at 32 in
+    omega (arith, l, c.write_space-place.ensures.end)
 
 pub returns : goal.returns
 returns c =
-    let l = ap length c.write-space-place.ensures.bytes ∙ length-set c.args.out.now c.args.at 32 in
+    let l = ap length c.write_space-place.ensures.bytes ∙ length-set c.args.out.now c.args.at 32 in
     wrote_more
-    (wrote_one c.args.out.now c.write-space-place.new.out c.args.at 32 c.write-space-place.result (omega arith) c.write-space-place.ensures.end c.write-space-place.ensures.bytes)
-    (record { fits = omega (arith, l, c.write-space-place.ensures.end); ends = c.write-number.ensures.end; bytes = c.write-number.ensures.bytes })
+    (wrote_one c.args.out.now c.write_space-place.new.out c.args.at 32 c.write_space-place.result (omega arith) c.write_space-place.ensures.end c.write_space-place.ensures.bytes)
+    (record { fits = omega (arith, l, c.write_space-place.ensures.end); ends = c.write_number.ensures.end; bytes = c.write_number.ensures.bytes })

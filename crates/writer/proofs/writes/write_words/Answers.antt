@@ -6,39 +6,39 @@ use Rattle.writer.proofs.Writing.{wrote_more, wrote_none, wrote_one, fields_more
 use Rattle.writer.proofs.writes.write_words.Goals as goal
 use Rattle.writer.proofs.writes.write_words.Goals.{After-loop-n}
 
-pub write-bytes-place-requires : goal.write-bytes-place-requires
-write-bytes-place-requires c = omega (arith, line_long c.args.key.now c.args.numbers.now)
+pub write_bytes-place-requires : goal.write_bytes-place-requires
+write_bytes-place-requires c = omega (arith, line_long c.args.key.now c.args.numbers.now)
 
 pub loop-n-init : goal.loop-n-init
 loop-n-init c = wrote_none _ _ (omega (arith, line_long c.args.key.now c.args.numbers.now))
 
-pub write-field-place-requires : goal.write-field-place-requires
-write-field-place-requires c =
+pub write_field-place-requires : goal.write_field-place-requires
+write_field-place-requires c =
     let a = line_long c.args.key.now c.args.numbers.now in
     let b = fields_room c.args.numbers.now c.loop-n.n-index (omega arith) in
     omega (arith, c.loop-n.invariant.ends)
 
 pub loop-n-preserved : goal.loop-n-preserved
 loop-n-preserved c =
-    subst (λ l. Wrote c.write-bytes-place.new.out c.write-bytes-place.result l c.write-field-place.new.out c.write-field-place.result)
+    subst (λ l. Wrote c.write_bytes-place.new.out c.write_bytes-place.result l c.write_field-place.new.out c.write_field-place.result)
     (sym (fields_more c.args.numbers.now c.loop-n.n-index c.loop-n-test.true))
-    (wrote_more c.loop-n.invariant c.write-field-place.ensures)
+    (wrote_more c.loop-n.invariant c.write_field-place.ensures)
 
-all_fields : (c : After-loop-n) → Wrote c.write-bytes-place.new.out c.write-bytes-place.result (fields c.args.numbers.now) c.loop-n.out c.loop-n.place
+all_fields : (c : After-loop-n) → Wrote c.write_bytes-place.new.out c.write_bytes-place.result (fields c.args.numbers.now) c.loop-n.out c.loop-n.place
 all_fields c =
-    subst (λ l. Wrote c.write-bytes-place.new.out c.write-bytes-place.result (fields l) c.loop-n.out c.loop-n.place)
+    subst (λ l. Wrote c.write_bytes-place.new.out c.write_bytes-place.result (fields l) c.loop-n.out c.loop-n.place)
     (take_all c.loop-n.n-index c.args.numbers.now c.loop-n-test.false)
     c.loop-n.invariant
 
-pub end-line-requires : goal.end-line-requires
-end-line-requires c =
+pub end_line-requires : goal.end_line-requires
+end_line-requires c =
     let a = line_long c.args.key.now c.args.numbers.now in
-    omega (arith, (all_fields (goal.at.end-line-requires c).After-loop-n).ends)
+    omega (arith, (all_fields (goal.at.end_line-requires c).After-loop-n).ends)
 
 pub returns : goal.returns
 returns c =
     let a = line_long c.args.key.now c.args.numbers.now in
     let all = all_fields (goal.at.returns c).After-loop-n in
     wrote_more
-    (record { fits = omega arith; ends = c.write-bytes-place.ensures.end; bytes = c.write-bytes-place.ensures.bytes })
-    (wrote_more all (wrote_one c.loop-n.out c.end-line.new.out c.loop-n.place 10 c.end-line.result (omega (arith, all.ends)) c.end-line.ensures.end c.end-line.ensures.bytes))
+    (record { fits = omega arith; ends = c.write_bytes-place.ensures.end; bytes = c.write_bytes-place.ensures.bytes })
+    (wrote_more all (wrote_one c.loop-n.out c.end_line.new.out c.loop-n.place 10 c.end_line.result (omega (arith, all.ends)) c.end_line.ensures.end c.end_line.ensures.bytes))

@@ -15,4 +15,4 @@ returns-in-Some c =
     let done =
     subst (λ (t : Table). lines.ShowDone (line_of (items t)) (table_leaves (items t) c.in-Some.place) c.in-Some.place c.args.window c.args.sheet.now c.show.new.sheet c.args.list.now c.show.new.list c.show.result)
     same c.show.ensures in
-    shows s c.args.number c.in-Some.place c.args.window _ c.in-ok-check-task.ensures found c.in-Some.ensures.within.0 c.args.sheet.now c.show.new.sheet c.args.list.now c.show.new.list c.show.result done
+    shows s c.args.number c.in-Some.place c.args.window _ c.in_ok-check_task.ensures found c.in-Some.ensures.within.0 c.args.sheet.now c.show.new.sheet c.args.list.now c.show.new.list c.show.result done

@@ -5,8 +5,8 @@ use Rattle.modes.specs.Graphs.{plan}
 use Rattle.modes.proofs.Plans.{whole_law}
 use Rattle.modes.proofs.graph.ModeGraph.check_whole.Goals as goal
 
-pub returns-then-is-empty : goal.returns-then-is-empty
-returns-then-is-empty c =
+pub returns-then-is_empty : goal.returns-then-is_empty
+returns-then-is_empty c =
     let p = plan c.args.self.now in
     let a : Err NoLinkOut ≡ whole_answer p = search rules in
     record { answer = a; whole = whole_law p (Err NoLinkOut) a }

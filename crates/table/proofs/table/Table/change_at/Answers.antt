@@ -26,8 +26,8 @@ inside t place x may =
 pub remove-number-requires : goal.remove-number-requires
 remove-number-requires c = (inside c.args.self.now c.args.place c.args.change c.requires.may).1
 
-pub changed-make-requires : goal.changed-make-requires
-changed-make-requires c =
+pub changed_make-requires : goal.changed_make-requires
+changed_make-requires c =
     let t = c.args.self.now in
     let h = inside t c.args.place c.args.change c.requires.may in
     let ts = vec_items t.tasks in
@@ -50,14 +50,14 @@ put_back t place x may gone after len cap old m b value make out less same back 
     let done = room (omega (arith, less, same, t.few, t.room)) in
     (items_changed (vec_items t.tasks) gone after place old m x b (inside t place x may).0 value make out back done, done)
 
-pub invariant-of-self : goal.invariant-of-self
-invariant-of-self c =
+pub invariant_of-self : goal.invariant_of-self
+invariant_of-self c =
     let t = c.args.self.now in
     let r = c.remove-number.ensures in
     let i = c.insert.ensures in
     let p =
     put_back t c.args.place c.args.change c.requires.may (vec_items c.remove-number.new.self) (vec_items c.insert.new.self) (vec_len c.remove-number.new.self) (vec_capacity c.remove-number.new.self)
-    c.remove-number.result c.changed-make.result (is_ok c.insert.result) r.value c.changed-make.ensures.make r.items r.len r.capacity i.items i.succeeds in
+    c.remove-number.result c.changed_make.result (is_ok c.insert.result) r.value c.changed_make.ensures.make r.items r.len r.capacity i.items i.succeeds in
     let n = i.len ∙ cond-true (is_ok c.insert.result) _ (vec_len c.remove-number.new.self) p.1 in (
       omega (arith, n, r.len, t.few),
       (
@@ -76,9 +76,9 @@ returns c =
     let i = c.insert.ensures in
     let p =
     put_back t c.args.place c.args.change c.requires.may (vec_items c.remove-number.new.self) (vec_items c.insert.new.self) (vec_len c.remove-number.new.self) (vec_capacity c.remove-number.new.self)
-    c.remove-number.result c.changed-make.result (is_ok c.insert.result) r.value c.changed-make.ensures.make r.items r.len r.capacity i.items i.succeeds in
+    c.remove-number.result c.changed_make.result (is_ok c.insert.result) r.value c.changed_make.ensures.make r.items r.len r.capacity i.items i.succeeds in
     let e = item_there (vec_items t.tasks) c.args.place c.remove-number.result (inside t c.args.place c.args.change c.requires.may).0 r.value in
     record {
       items = p.0;
-      leaves = subst (λ (i : Item). Leaves (changed_make c.args.change i.make) c.args.sheet.now c.changed-make.new.sheet) e c.changed-make.ensures.leaves;
+      leaves = subst (λ (i : Item). Leaves (changed_make c.args.change i.make) c.args.sheet.now c.changed_make.new.sheet) e c.changed_make.ensures.leaves;
     }

@@ -17,8 +17,8 @@ facts t task e =
     let l = t.tasks.ok.0 in
     (h, omega (arith, h.few, m, l, t.room))
 
-pub invariant-of-self : goal.invariant-of-self
-invariant-of-self c =
+pub invariant_of-self : goal.invariant_of-self
+invariant_of-self c =
     let t = c.args.self.now in
     let f = facts t c.args.task (sym c.takes.ensures ∙ c.if-not-takes.false) in
     let m = length-map (vec_items t.tasks) item_of in

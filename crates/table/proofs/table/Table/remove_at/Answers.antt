@@ -10,8 +10,8 @@ use Rattle.table.proofs.table.Table.remove_at.Goals as goal
 pub remove-requires : goal.remove-requires
 remove-requires c = let t = c.args.self.now in omega (arith, c.requires, length-map (vec_items t.tasks) item_of, t.tasks.ok.0)
 
-pub invariant-of-self : goal.invariant-of-self
-invariant-of-self c =
+pub invariant_of-self : goal.invariant_of-self
+invariant_of-self c =
     let t = c.args.self.now in
     let r = c.remove.ensures in
     let e = ap (map item_of) r.items ∙ items_removed (vec_items t.tasks) c.args.place in (
