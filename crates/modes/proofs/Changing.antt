@@ -4,11 +4,11 @@ use Rattle.std.proofs.lemmas.List.{get_or_past}
 use Rattle.std.proofs.lemmas.Bool.{cases_eq, cases_lt, false≢true}
 use Rattle.line.specs.Meaning.{Graph, gap_of}
 use Rattle.line.specs.Answers.{Answer}
-use Rattle.line.specs.Lighter.{Lighter, Lightened}
+use Rattle.line.specs.Lighter.{Lightened}
 use Rattle.line.specs.Changes.{change_answer}
 use Rattle.line.specs.declared.change.Change.{Change}
 use Rattle.line.specs.declared.change.Change.TheVariants.{Lower, Widen, Cut}
-use Rattle.line.proofs.Changing.{gap_there, Told, told}
+use Rattle.line.proofs.Changing.{gap_there, told}
 use Rattle.modes.specs.Plans.{Plan, blank, graph_of, with_cost, with_link, changed_plan, whole_answer, Whole}
 use Rattle.modes.specs.declared.graph.Mode.{Mode}
 use Rattle.modes.proofs.Plans.{decides_whole}

@@ -8,19 +8,12 @@ use Rattle.angular.proofs.Walks.{most_is}
 use Rattle.angular.proofs.Angular.new.Goals as goal
 
 pub invariant_of-result : goal.invariant_of-result
-invariant_of-result c = (
-  whole_some (plan c.args.graph) c.requires.whole,
-  (
-    ap is_ok c.requires.whole,
-    (
-      c.requires.wide,
-      (
-        row_refilled (graph_of (plan c.args.graph)) c.args.row c.write_row.new.row (omega (arith, c.write_row.auto.row, c.deref_mut.ensures.len)) c.write_row.ensures,
-        tt,
-      ),
-    ),
-  ),
-)
+invariant_of-result c = record {
+  some = whole_some (plan c.args.graph) c.requires.whole;
+  whole = ap is_ok c.requires.whole;
+  wide = c.requires.wide;
+  right = row_refilled (graph_of (plan c.args.graph)) c.args.row c.write_row.new.row (omega (arith, c.write_row.auto.row, c.deref_mut.ensures.len)) c.write_row.ensures;
+}
 
 pub returns : goal.returns
 returns c =

@@ -12,4 +12,4 @@ invariant_of-self c =
     let right =
     added_right (vec_items g.modes) (vec_items c.push_reserved.new.self) c.new.result (vec_items g.gaps) pushed.items
     (ap right_mode c.new.ensures ∙ ok.0) g.limits g.links in
-    (omega (arith, ok.1, g.modes.ok.0, pushed.len), (omega (arith, g.room, pushed.capacity), (g.square, (right.0, (right.1, tt)))))
+    record { few = omega (arith, ok.1, g.modes.ok.0, pushed.len); room = omega (arith, g.room, pushed.capacity); square = g.square; limits = right.0; links = right.1 }

@@ -58,16 +58,13 @@ invariant_of-self c =
     let p =
     put_back t c.args.place c.args.change c.requires.may (vec_items c.remove-number.new.self) (vec_items c.insert.new.self) (vec_len c.remove-number.new.self) (vec_capacity c.remove-number.new.self)
     c.remove-number.result c.changed_make.result (is_ok c.insert.result) r.value c.changed_make.ensures.make r.items r.len r.capacity i.items i.succeeds in
-    let n = i.len ∙ cond-true (is_ok c.insert.result) _ (vec_len c.remove-number.new.self) p.1 in (
-      omega (arith, n, r.len, t.few),
-      (
-        omega (arith, i.capacity, r.capacity, t.room),
-        (
-          ap apart p.0 ∙ apart_changed (items t) c.args.place c.args.change t.distinct,
-          (omega (arith, ap angulars p.0, angulars_changed (items t) c.args.place c.args.change, t.crank), tt),
-        ),
-      ),
-    )
+    let n = i.len ∙ cond-true (is_ok c.insert.result) _ (vec_len c.remove-number.new.self) p.1 in
+    record {
+      few = omega (arith, n, r.len, t.few);
+      room = omega (arith, i.capacity, r.capacity, t.room);
+      distinct = ap apart p.0 ∙ apart_changed (items t) c.args.place c.args.change t.distinct;
+      crank = omega (arith, ap angulars p.0, angulars_changed (items t) c.args.place c.args.change, t.crank);
+    }
 
 pub returns : goal.returns
 returns c =

@@ -23,16 +23,13 @@ invariant_of-self c =
     let f = facts t c.args.task (sym c.takes.ensures ∙ c.if-not-takes.false) in
     let m = length-map (vec_items t.tasks) item_of in
     let l = t.tasks.ok.0 in
-    let n = c.insert.ensures.len in (
-      grind (arith, n, f.0.few, m, l),
-      (
-        omega (arith, c.insert.ensures.capacity, t.room),
-        (
-          still_apart (vec_items t.tasks) (vec_items c.insert.new.self) c.min-at.result c.args.task (is_ok c.insert.result) c.insert.ensures.items f.0 t.distinct,
-          (still_few_angulars (vec_items t.tasks) (vec_items c.insert.new.self) c.min-at.result c.args.task (is_ok c.insert.result) c.insert.ensures.items f.0 t.crank, tt),
-        ),
-      ),
-    )
+    let n = c.insert.ensures.len in
+    record {
+      few = grind (arith, n, f.0.few, m, l);
+      room = omega (arith, c.insert.ensures.capacity, t.room);
+      distinct = still_apart (vec_items t.tasks) (vec_items c.insert.new.self) c.min-at.result c.args.task (is_ok c.insert.result) c.insert.ensures.items f.0 t.distinct;
+      crank = still_few_angulars (vec_items t.tasks) (vec_items c.insert.new.self) c.min-at.result c.args.task (is_ok c.insert.result) c.insert.ensures.items f.0 t.crank;
+    }
 
 pub returns-in-Err : goal.returns-in-Err
 returns-in-Err c =

@@ -14,13 +14,13 @@ pub invariant_of-self : goal.invariant_of-self
 invariant_of-self c =
     let t = c.args.self.now in
     let r = c.remove.ensures in
-    let e = ap (map item_of) r.items ∙ items_removed (vec_items t.tasks) c.args.place in (
-      omega (arith, r.len, t.few),
-      (
-        omega (arith, r.capacity, t.room),
-        (ap apart e ∙ apart_removed (items t) c.args.place t.distinct, (omega (arith, ap angulars e, angulars_removed (items t) c.args.place, t.crank), tt)),
-      ),
-    )
+    let e = ap (map item_of) r.items ∙ items_removed (vec_items t.tasks) c.args.place in
+    record {
+      few = omega (arith, r.len, t.few);
+      room = omega (arith, r.capacity, t.room);
+      distinct = ap apart e ∙ apart_removed (items t) c.args.place t.distinct;
+      crank = omega (arith, ap angulars e, angulars_removed (items t) c.args.place, t.crank);
+    }
 
 pub returns : goal.returns
 returns c =
