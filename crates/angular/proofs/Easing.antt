@@ -7,7 +7,7 @@ use Rattle.line.specs.declared.change.Change.{Change}
 use Rattle.modes.specs.Plans.{Plan, graph_of, changed_plan}
 use Rattle.modes.proofs.Changing.{changed_lighter}
 use Rattle.angular.specs.Tasks.{angular_task}
-use Rattle.angular.proofs.Walks.{monotone}
+use Rattle.angular.specs.Walks.{monotone}
 
 pub changed_eased : (p : Plan) (c : Change) → change_answer (graph_of p) c ≡ Ok tt → GraphLaws (graph_of p) → GraphLaws (graph_of (changed_plan c p)) → Eased (angular_task (changed_plan c p)) (angular_task p)
 changed_eased p c h was is =

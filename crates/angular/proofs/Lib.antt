@@ -1,4 +1,3 @@
-pub mod Walks
 pub mod Sheets
 pub mod Shows
 pub mod Laws

@@ -7,7 +7,7 @@ use Rattle.line.specs.Lawful.{GraphLaws}
 use Rattle.angular.specs.Greatest.{Greatest}
 use Rattle.angular.specs.Best.{next, best}
 use Rattle.angular.specs.Sheets.{cell_at, Filled, FilledTo, Kept}
-use Rattle.angular.proofs.Walks.{step, gaps_some, single, best_greatest}
+use Rattle.angular.specs.Walks.{step, gaps_some, single, best_greatest}
 
 -- The value of a cell, from the columns before it.
 pub cell_is : (G : Graph) (sheet : List ℕ) (m w x y : ℕ) → GraphLaws G → m < G.modes → 0 < w → FilledTo G sheet w

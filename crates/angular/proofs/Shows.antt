@@ -11,7 +11,7 @@ use Rattle.line.specs.Shows.{Shown}
 use Rattle.angular.specs.Greatest.{Fitting}
 use Rattle.angular.specs.Best.{over, next, offer, most_of}
 use Rattle.angular.specs.Sheets.{cell_at, Filled, RowTo, Onward}
-use Rattle.angular.proofs.Walks.{over_more, offer_some, first_mode, gaps_some, most_is, most_single, most_none}
+use Rattle.angular.specs.Walks.{over_more, offer_some, first_mode, gaps_some, most_is, most_single, most_none}
 use Rattle.angular.proofs.Sheets.{cell_split}
 
 -- ---- `start` and `write_row`

@@ -2,3 +2,5 @@ pub mod Greatest
 pub mod Best
 pub mod Tasks
 pub mod Sheets
+pub mod Walks
+pub mod Laws

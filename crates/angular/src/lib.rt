@@ -16,7 +16,9 @@ ghost use Rattle.line.specs.Meaning.{sole};
 ghost use Rattle.angular.specs.Tasks.{angular_task};
 ghost use Rattle.angular.specs.Sheets.{Filled, Kept, RowTo};
 ghost use Rattle.modes.specs.Graphs.{plan};
-ghost use Rattle.std.proofs.Common.{rules, arith};
+ghost use Rattle.line.proofs.Facts.{sole_lawful};
+ghost use Rattle.modes.proofs.Plans.{graph_laws};
+ghost use Rattle.angular.specs.Laws.{plan_laws};
 
 use crate::sheet::fill;
 use crate::show::{write_row, write_walk};
@@ -99,7 +101,7 @@ impl Line for Angular {
 
     ghost lawful = { λ _. Unit {0} };
 
-    ghost keeps = { first_of (Prim.search rules, Prim.grind (arith, Self.row.coded.inj)) };
+    ghost keeps = { λ a h. sole_lawful _ (plan_laws (plan a.graph) (graph_laws a.graph a.some)) };
 
     fn count(&self) -> usize {
         1

@@ -5,7 +5,7 @@ use Rattle.line.specs.Walks.{Walk, Fits, work}
 use Rattle.line.specs.Lawful.{TaskLaws, Lawful}
 use Rattle.line.specs.Meaning.{sole}
 use Rattle.sporadic.specs.Tasks.{sporadic_task, releases}
-use Rattle.sporadic.proofs.Sporadics.{sporadic_covers, numbers_laws}
+use Rattle.sporadic.specs.Sporadics.{sporadic_covers, numbers_laws}
 use Rattle.line.proofs.Facts.{sole_lawful}
 use Rattle.cases.specs.Guards.{guarded_most, guarded_task}
 use Rattle.cases.specs.declared.guarded.Guarded.{Guarded}

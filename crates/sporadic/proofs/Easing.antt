@@ -1,6 +1,6 @@
 -- A sporadic task after an accepted change asks for no more than before. Assumes nothing.
-use Rattle.std.proofs.Common.{◌≡◌, ℕ, suc, ◌+◌, ◌-◌, ◌*◌, ◌<◌, ◌≤◌, Some, Ok, refl, suc-mul, div-lt_iff_lt-mul, mul-le-mul, mul-le-mul_left, arith}
-use Rattle.line.specs.Lighter.{Lighter, Lightened, Eased}
+use Rattle.std.proofs.Common.{◌≡◌, ℕ, suc, ◌+◌, ◌-◌, ◌≤◌, Some, Ok, refl, suc-mul, div-lt_iff_lt-mul, mul-le-mul, mul-le-mul_left, arith}
+use Rattle.line.specs.Lighter.{Eased}
 use Rattle.line.specs.Changes.{change_answer}
 use Rattle.line.specs.declared.change.Change.{Change}
 use Rattle.line.specs.declared.change.Change.TheVariants.{Lower, Widen, Cut}

@@ -1,3 +1,2 @@
-pub mod Sporadics
 pub mod Laws
 pub mod Easing

@@ -6,7 +6,8 @@ ghost use Rattle.line.specs.Changes.{change_numbers, change_answer};
 ghost use Rattle.line.specs.Answers.{MadeBy};
 ghost use Rattle.sporadic.specs.Tasks.{releases, sporadic_task, sporadic_answer, changed_cost, changed_period};
 ghost use Rattle.line.specs.Meaning.{sole};
-ghost use Rattle.std.proofs.Common.{rules, arith};
+ghost use Rattle.line.proofs.Facts.{sole_lawful};
+ghost use Rattle.sporadic.specs.Sporadics.{numbers_laws};
 
 use line::change::Change;
 use line::joined::may_show;
@@ -132,7 +133,7 @@ impl Line for Sporadic {
 
     ghost lawful = { λ _. Unit {0} };
 
-    ghost keeps = { first_of (Prim.search rules, Prim.grind (arith, Self.row.coded.inj)) };
+    ghost keeps = { λ s h. sole_lawful _ (numbers_laws s.cost s.period s.deadline s.some s.fits s.near s.first s.often) };
 
     fn count(&self) -> usize {
         1

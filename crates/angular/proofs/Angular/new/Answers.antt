@@ -4,7 +4,7 @@ use Rattle.modes.specs.Graphs.{plan}
 use Rattle.angular.specs.Greatest.{Most}
 use Rattle.modes.proofs.Plans.{graph_laws, whole_some}
 use Rattle.angular.proofs.Shows.{row_refilled}
-use Rattle.angular.proofs.Walks.{most_is}
+use Rattle.angular.specs.Walks.{most_is}
 use Rattle.angular.proofs.Angular.new.Goals as goal
 
 pub invariant_of-result : goal.invariant_of-result

@@ -5,7 +5,7 @@ use Rattle.modes.specs.Plans.{graph_of}
 use Rattle.modes.specs.Graphs.{plan}
 use Rattle.modes.proofs.Plans.{graph_laws}
 use Rattle.angular.proofs.Sheets.{cell_is}
-use Rattle.angular.proofs.Walks.{greatest_none, greatest_bounded}
+use Rattle.angular.specs.Walks.{greatest_none, greatest_bounded}
 use Rattle.angular.proofs.sheet.cell.Goals as goal
 
 laws : (c : goal.After-follow) → GraphLaws (graph_of (plan c.args.graph.now))

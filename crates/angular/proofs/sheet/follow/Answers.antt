@@ -3,7 +3,7 @@ use Rattle.angular.specs.Best.{offer}
 use Rattle.modes.specs.Plans.{graph_of}
 use Rattle.modes.specs.Graphs.{plan}
 use Rattle.angular.specs.Sheets.{cell_at}
-use Rattle.angular.proofs.Walks.{over_more}
+use Rattle.angular.specs.Walks.{over_more}
 use Rattle.angular.proofs.sheet.follow.Goals as goal
 
 pub loop-b-preserved : goal.loop-b-preserved

@@ -1,5 +1,5 @@
 use Rattle.std.proofs.Common.{length, sym, refl, arith}
-use Rattle.sporadic.proofs.Sporadics.{show_passed, releases_most, even_shown}
+use Rattle.sporadic.specs.Sporadics.{show_passed, releases_most, even_shown}
 use Rattle.sporadic.proofs.SporadicExactLine.show.Goals as goal
 
 pub write_jobs-requires : goal.write_jobs-requires

@@ -1,5 +1,5 @@
 use Rattle.std.proofs.Common.{◌*◌, ap, arith}
-use Rattle.sporadic.proofs.Sporadics.{sporadic_fits}
+use Rattle.sporadic.specs.Sporadics.{sporadic_fits}
 use Rattle.sporadic.proofs.SporadicLine.most.Goals as goal
 
 pub overflow_mul-result : goal.overflow_mul-result
