@@ -1,11 +1,11 @@
 -- A table asks for no more than before after a task was taken out or an accepted change. Assumes nothing.
-use Rattle.std.proofs.Common.{◌≡◌, ℕ, suc, ◌+◌, ◌<◌, ◌≤◌, Bool, true, false, cond, ltb, List, map, length, get_or, set, Some, Ok, sym, refl, ap, ◌∙◌, subst, inl, inr, arith, length-set, get_or-set_other, get_or-set_same}
+use Rattle.std.proofs.Common.{◌≡◌, ℕ, suc, ◌+◌, ◌<◌, ◌≤◌, List, length, get_or, Ok, sym, refl, ap, ◌∙◌, subst, inl, inr, arith, length-set, get_or-set_other, get_or-set_same}
 use Rattle.std.specs.List.{remove}
 use Rattle.std.proofs.lemmas.List.Edits.{length-remove, get_or-remove_below, get_or-remove_above}
 use Rattle.std.proofs.lemmas.Bool.{cases_eq, cases_lt, cond-true, cond-false, lt-ltb, le-ltb}
-use Rattle.line.specs.Meaning.{Task, Meaning, task_at}
+use Rattle.line.specs.Meaning.{Task, task_at}
 use Rattle.line.specs.Lawful.{TaskLaws, Lawful}
-use Rattle.line.specs.Lighter.{Lighter, Lightened, Eased, EasedLine}
+use Rattle.line.specs.Lighter.{Eased, EasedLine}
 use Rattle.line.specs.Changes.{change_answer}
 use Rattle.line.specs.declared.change.Change.{Change}
 use Rattle.sporadic.proofs.Easing as sporadics

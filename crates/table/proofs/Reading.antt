@@ -1,12 +1,11 @@
 -- Reading the tasks of a table one by one. Assumes nothing.
-use Rattle.std.proofs.Common.{◌≡◌, ℕ, zero, suc, ◌+◌, ◌<◌, ◌≤◌, Bool, true, false, cond, eqb, ltb, List, [], ◌∷◌, ◌++◌, map, length, get_or, take, drop, Some, None, Option, sym, refl, ap, ◌∙◌, zero-add, arith}
+use Rattle.std.proofs.Common.{◌≡◌, ℕ, suc, ◌+◌, ◌<◌, ◌≤◌, true, false, cond, eqb, List, map, length, get_or, drop, Some, None, Option, sym, refl, ap, ◌∙◌, zero-add, arith}
 use Rattle.std.specs.List.{insert}
 use Rattle.std.specs.Option.{option_map}
-use Rattle.std.proofs.lemmas.List.{map-append, take-map, drop-map, at_drop_more, at_drop_all, length-map, get_or-map, get_or_past}
+use Rattle.std.proofs.lemmas.List.{map-append, take-map, drop-map, at_drop_more, at_drop_all, get_or-map, get_or_past}
 use Rattle.std.proofs.lemmas.Bool.{cond-true, cond-false, lt-ltb, le-ltb, eq-eqb, ne_eqb}
-use Rattle.std.proofs.lemmas.Bool.Decides.{nat_tests}
 use Rattle.line.specs.Meaning.{task_at, nowhere}
-use Rattle.table.specs.Items.{Item, Make, blank, task_of, line_of, place_of, is_angular, angulars}
+use Rattle.table.specs.Items.{Item, blank, task_of, line_of, place_of, is_angular, angulars}
 use Rattle.table.specs.Tasks.{make_of, item_of}
 use Rattle.table.specs.declared.make.Task.{Task}
 

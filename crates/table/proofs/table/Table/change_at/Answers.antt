@@ -1,11 +1,11 @@
-use Rattle.std.proofs.Common.{◌≡◌, ℕ, ◌+◌, ◌<◌, ◌≤◌, Bool, true, cond, List, map, length, get_or, is_ok, Ok, vec_items, vec_len, vec_capacity, sym, ap, ◌∙◌, subst, arith}
+use Rattle.std.proofs.Common.{◌≡◌, ℕ, ◌+◌, ◌<◌, Bool, true, cond, List, map, length, get_or, is_ok, Ok, vec_items, vec_len, vec_capacity, sym, ap, ◌∙◌, subst, arith}
 use Rattle.std.specs.List.{insert, remove}
 use Rattle.std.proofs.lemmas.List.{length-map}
 use Rattle.std.proofs.lemmas.Bool.{cond-true}
 use Rattle.line.specs.Meaning.{Task as Asked, task_at}
 use Rattle.line.specs.Changes.{change_answer}
 use Rattle.line.specs.declared.change.Change.{Change}
-use Rattle.table.specs.Items.{Item, task_of, line_of, apart, angulars, changed_make, changed_at, Leaves}
+use Rattle.table.specs.Items.{Item, line_of, apart, angulars, changed_make, changed_at, Leaves}
 use Rattle.table.specs.Tables.{items}
 use Rattle.table.specs.Tasks.{make_of, item_of}
 use Rattle.table.specs.declared.make.Make.{Make}
@@ -26,8 +26,8 @@ inside t place x may =
 pub remove-number-requires : goal.remove-number-requires
 remove-number-requires c = (inside c.args.self.now c.args.place c.args.change c.requires.may).1
 
-pub changed_make-requires : goal.changed_make-requires
-changed_make-requires c =
+pub changed-make-requires : goal.changed-make-requires
+changed-make-requires c =
     let t = c.args.self.now in
     let h = inside t c.args.place c.args.change c.requires.may in
     let ts = vec_items t.tasks in
@@ -57,7 +57,7 @@ invariant_of-self c =
     let i = c.insert.ensures in
     let p =
     put_back t c.args.place c.args.change c.requires.may (vec_items c.remove-number.new.self) (vec_items c.insert.new.self) (vec_len c.remove-number.new.self) (vec_capacity c.remove-number.new.self)
-    c.remove-number.result c.changed_make.result (is_ok c.insert.result) r.value c.changed_make.ensures.make r.items r.len r.capacity i.items i.succeeds in
+    c.remove-number.result c.changed-make.result (is_ok c.insert.result) r.value c.changed-make.ensures.make r.items r.len r.capacity i.items i.succeeds in
     let n = i.len ∙ cond-true (is_ok c.insert.result) _ (vec_len c.remove-number.new.self) p.1 in
     record {
       few = omega (arith, n, r.len, t.few);
@@ -73,9 +73,9 @@ returns c =
     let i = c.insert.ensures in
     let p =
     put_back t c.args.place c.args.change c.requires.may (vec_items c.remove-number.new.self) (vec_items c.insert.new.self) (vec_len c.remove-number.new.self) (vec_capacity c.remove-number.new.self)
-    c.remove-number.result c.changed_make.result (is_ok c.insert.result) r.value c.changed_make.ensures.make r.items r.len r.capacity i.items i.succeeds in
+    c.remove-number.result c.changed-make.result (is_ok c.insert.result) r.value c.changed-make.ensures.make r.items r.len r.capacity i.items i.succeeds in
     let e = item_there (vec_items t.tasks) c.args.place c.remove-number.result (inside t c.args.place c.args.change c.requires.may).0 r.value in
     record {
       items = p.0;
-      leaves = subst (λ (i : Item). Leaves (changed_make c.args.change i.make) c.args.sheet.now c.changed_make.new.sheet) e c.changed_make.ensures.leaves;
+      leaves = subst (λ (i : Item). Leaves (changed_make c.args.change i.make) c.args.sheet.now c.changed-make.new.sheet) e c.changed-make.ensures.leaves;
     }

@@ -1,4 +1,4 @@
-use Rattle.std.proofs.Common.{sym, ap}
+use Rattle.std.proofs.Common.{sym}
 use Rattle.table.proofs.Reading.{number_past}
 use Rattle.table.specs.Tables.{items}
 use Rattle.table.proofs.table.Table.number_at.Goals as goal

@@ -1,4 +1,4 @@
-use Rattle.std.proofs.Common.{vec_items, sym, ap, ◌∙◌, arith}
+use Rattle.std.proofs.Common.{vec_items, arith}
 use Rattle.std.proofs.lemmas.List.{length-map}
 use Rattle.table.specs.Tasks.{item_of}
 use Rattle.table.proofs.Reading.{item_there, task_there, task_past}
