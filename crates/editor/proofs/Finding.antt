@@ -1,5 +1,5 @@
 -- Where an accepted call found its task. Assumes nothing.
-use Rattle.std.proofs.Common.{◌≡◌, ℕ, suc, ◌<◌, ◌≤◌, Bool, true, false, cond, eqb, List, [], ◌∷◌, length, is_some, Some, None, Ok, Err, Option, Result, sym, refl, ap, ◌∙◌, arith}
+use Rattle.std.proofs.Common.{◌≡◌, ℕ, suc, ◌<◌, Bool, true, false, cond, eqb, List, [], ◌∷◌, length, is_some, Some, None, Ok, Err, Option, Result, sym, refl, ap, arith}
 use Rattle.std.specs.Option.{option_map}
 use Rattle.line.specs.declared.change.Change.{Change}
 use Rattle.line.specs.declared.refusal.Refusal.{Refusal}

@@ -1,5 +1,5 @@
 -- What an editor has before it, as a plain value, and what its calls answer and leave. Assumes nothing.
-use Rattle.std.specs.Prelude.{◌≡◌, ℕ, Bool, true, false, cond, List, [], length, is_some, is_ok, Some, None, Ok, Err, Option, Result, nat_lt, slice_index_or}
+use Rattle.std.specs.Prelude.{◌≡◌, ℕ, true, false, cond, List, [], length, is_some, is_ok, Some, None, Ok, Err, Option, Result, nat_lt, slice_index_or}
 use Rattle.std.specs.Option.{option_map}
 use Rattle.line.specs.declared.refusal.Refusal.{Refusal}
 use Rattle.line.specs.declared.refusal.Refusal.TheVariants.{DraftOpen, NoTicket, HasTasks, NotThere, NoMemory}
@@ -10,7 +10,7 @@ use Rattle.line.specs.Answers.{Answer, and_then, sheet_answer}
 use Rattle.modes.specs.Plans.{Plan, empty_plan, mode_numbers, link_numbers, add_answer, after_add, link_answer, after_link, whole_answer}
 use Rattle.sporadic.specs.Tasks.{sporadic_answer}
 use Rattle.table.specs.Numbers.{task_numbers}
-use Rattle.table.specs.Items.{Item, Make, sporadic, angular, blank, line_of, place_of, there_answer, without, enter_answer, entered, changed_make, changed_at, Leaves}
+use Rattle.table.specs.Items.{Item, sporadic, angular, blank, line_of, place_of, there_answer, without, enter_answer, entered, changed_make, changed_at, Leaves}
 use Rattle.table.specs.Tables.{items}
 use Rattle.editor.specs.declared.editor.Editor.{Editor}
 use Rattle.editor.specs.Drafts.{Outline, outline}

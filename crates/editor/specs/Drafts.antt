@@ -1,5 +1,5 @@
 -- What an editor holds of a draft. Assumes nothing.
-use Rattle.std.specs.Prelude.{ℕ, Bool, true, false, ◌&&◌, List, is_ok, Some, None, vec_len, Option, ◌==◌}
+use Rattle.std.specs.Prelude.{ℕ, Bool, true, ◌&&◌, List, is_ok, Some, None, vec_len, Option, ◌==◌}
 use Rattle.modes.specs.Plans.{Plan}
 use Rattle.modes.specs.Graphs.{plan}
 use Rattle.table.specs.Numbers.{task_numbers}
