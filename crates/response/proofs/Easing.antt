@@ -1,7 +1,7 @@
 -- A line that asks for no more than another has no greater bounds, and fits if that one does. Assumes nothing.
-use Rattle.std.proofs.Common.{◌≡◌, ℕ, zero, suc, ◌+◌, ◌<◌, ◌≤◌, Bool, true, false, cond, ltb, leb, Some, None, Option, sym, refl, ap, ◌∙◌, inl, inr, arith}
-use Rattle.std.proofs.lemmas.Bool.{cond-true, lt-ltb, leb-true, cases_eq, cases_lt}
-use Rattle.line.specs.Meaning.{Meaning, Task, task_at, modes_in, cost_in, deadline_in, most_in}
+use Rattle.std.proofs.Common.{◌≡◌, ℕ, zero, suc, ◌<◌, ◌≤◌, Bool, true, false, cond, ltb, leb, Some, None, Option, refl, ap, ◌∙◌, inl, inr, arith}
+use Rattle.std.proofs.lemmas.Bool.{cond-true, lt-ltb, leb-true, cases_lt}
+use Rattle.line.specs.Meaning.{Meaning, Task, task_at, cost_in, deadline_in, most_in}
 use Rattle.line.specs.Lighter.{Eased, EasedLine}
 use Rattle.response.specs.Bounds.{above, need, Bound, bound_of}
 use Rattle.response.specs.Judgements.{Mode}
@@ -72,6 +72,6 @@ module _ (from : ℕ → ℕ) (m n : Meaning) (e : EasedLine from m n) where
       each : (k i : ℕ) → Mode m k i → Bounded m k i
       each k i h =
           let t = at_eases k h.place in
-          let x = fits_bounds n fits (from k) i (record { place = e.there k h.place; mode = omega (arith, h.mode, t.graph.same) }) in
+          let x = fits_bounds n fits (from k) i (record { place = e.there k h.place; mode = omega (arith, h.mode, t.graph.lighter.same) }) in
           let y = bounds_ease k i x.0 h.place (bound_found n (from k) i x.0 x.1) in
           (y.0, found_bound m k i y.0 y.1)

@@ -56,12 +56,12 @@ fn verdict_at(over: Option<(usize, usize)>) -> Verdict
 /// Of the first 256 cells, cell place × 16 + mode gets the mode's bound, and every other one 0;
 /// later cells stay. Fewer cells are refused, and then nothing changes.
 pub fn judge<L: Line>(line: &L, cells: &mut [u32]) -> Result<Verdict, Refusal>
-    requires { lawful line.now }
-    ensures answer { result ≡ judge_answer (meaning line.now) (length cells.old) }
-    ensures cells { cells.new ≡ judged_cells (meaning line.now) cells.old }
-    ensures safe { IfOk result (λ v. v ≡ Verdict.Fits → NeverLate (meaning line.now)) }
-    ensures eases { OnOk result (EasesBelow (meaning line.now)) }
-    ensures judged { IfOk result (λ v. Judged (meaning line.now) v cells.new) }
+    requires { L.lawful line.now }
+    ensures answer { result ≡ judge_answer (L.meaning line.now) (length cells.old) }
+    ensures cells { cells.new ≡ judged_cells (L.meaning line.now) cells.old }
+    ensures safe { IfOk result (λ v. v ≡ Verdict.Fits → NeverLate (L.meaning line.now)) }
+    ensures eases { OnOk result (EasesBelow (L.meaning line.now)) }
+    ensures judged { IfOk result (λ v. Judged (L.meaning line.now) v cells.new) }
 {
     if cells.len() < CELLS {
         return Err(Refusal::TooShort);

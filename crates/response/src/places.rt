@@ -12,12 +12,12 @@ use line::limits::WINDOWS;
 /// Finds the bounds of a place's modes, and shows them, up to the first mode that has none, which
 /// is the answer. The row has the work of the places above.
 fn judge_place<L: Line>(line: &L, sums: &[u32], place: usize, cells: &mut [u32]) -> Option<usize>
-    requires lawful { lawful line.now }
-    requires inside { place < (meaning line.now).count }
-    requires row { Sums (meaning line.now) place sums.now }
+    requires lawful { L.lawful line.now }
+    requires inside { place < (L.meaning line.now).count }
+    requires row { Sums (L.meaning line.now) place sums.now }
     requires room { 256 ≤ length cells.old }
-    ensures over { result ≡ over_in (meaning line.now) place }
-    ensures shows { Shows (meaning line.now) (place * 16) (place * 16 + reached (meaning line.now) place) cells.old cells.new }
+    ensures over { result ≡ over_in (L.meaning line.now) place }
+    ensures shows { Shows (L.meaning line.now) (place * 16) (place * 16 + reached (L.meaning line.now) place) cells.old cells.new }
 {
     let modes = line.modes(place);
     for mode in 0..modes {
@@ -33,11 +33,11 @@ fn judge_place<L: Line>(line: &L, sums: &[u32], place: usize, cells: &mut [u32])
 
 /// The first place and mode without a bound; those before it show theirs, in cells that were 0.
 pub fn first_over<L: Line>(line: &L, cells: &mut [u32]) -> Option<(usize, usize)>
-    requires lawful { lawful line.now }
+    requires lawful { L.lawful line.now }
     requires room { 256 ≤ length cells.old }
     requires zeros { (n : ℕ) → n < 256 → slice_index cells.old n ≡ 0 }
-    ensures over { result ≡ first_over (meaning line.now) }
-    ensures shows { Shows (meaning line.now) 0 (reached_cell (meaning line.now)) cells.old cells.new }
+    ensures over { result ≡ first_over (L.meaning line.now) }
+    ensures shows { Shows (L.meaning line.now) 0 (reached_cell (L.meaning line.now)) cells.old cells.new }
 {
     let mut sums = [0; WINDOWS];
     let count = line.count();

@@ -55,14 +55,14 @@ pub fn served(slot: Option<Job>, units: u32) -> Option<Job>
 
 /// The clock at which a job of a place is due.
 fn due_at<L: Line>(line: &L, place: usize, job: Job) -> u64
-    ensures { result ≡ due_at (meaning line.now) place job }
+    ensures { result ≡ due_at (L.meaning line.now) place job }
 {
     job.release as u64 + line.deadline(place, job.mode) as u64
 }
 
 /// Whether a job in a mode may be released at a place, after the last one there.
 pub fn ready<L: Line>(line: &L, clock: u32, place: usize, mode: usize, last: Option<Job>) -> bool
-    ensures { result ≡ ready (meaning line.now) place mode clock last }
+    ensures { result ≡ ready (L.meaning line.now) place mode clock last }
 {
     match last {
         Some(job) => match line.gap(place, job.mode, mode) {
@@ -75,7 +75,7 @@ pub fn ready<L: Line>(line: &L, clock: u32, place: usize, mode: usize, last: Opt
 
 /// The lateness of a place's job.
 fn late_in<L: Line>(line: &L, clock: u32, place: usize, slot: Option<Job>) -> Option<Late>
-    ensures { result ≡ late_in (meaning line.now) clock place slot }
+    ensures { result ≡ late_in (L.meaning line.now) clock place slot }
 {
     let job = slot?;
     if job.left > 0 && due_at(line, place, job) == clock as u64 {
@@ -89,7 +89,7 @@ fn late_in<L: Line>(line: &L, clock: u32, place: usize, slot: Option<Job>) -> Op
 
 /// The highest place that is late, with the mode of its job.
 pub fn first_late<L: Line>(line: &L, clock: u32, jobs: &[Option<Job>]) -> Option<Late>
-    ensures { result ≡ first_late (meaning line.now) clock 0 jobs.now }
+    ensures { result ≡ first_late (L.meaning line.now) clock 0 jobs.now }
 {
     for i in 0..jobs.len() {
         if let Some(late) = late_in(line, clock, i, jobs[i]) {
@@ -113,7 +113,7 @@ pub fn unfinished(slot: Option<Job>, limit: u32) -> u32
 
 /// At most `limit` ticks, in which a place's job does not become due with work left.
 fn undue<L: Line>(line: &L, clock: u32, place: usize, slot: Option<Job>, limit: u32) -> u32
-    ensures { result ≡ undue (meaning line.now) clock place slot limit }
+    ensures { result ≡ undue (L.meaning line.now) clock place slot limit }
 {
     let Some(job) = slot else {
         return limit;
@@ -132,7 +132,7 @@ fn undue<L: Line>(line: &L, clock: u32, place: usize, slot: Option<Job>, limit: 
 
 /// At most `limit` ticks, in which no job becomes due with work left.
 pub fn undue_all<L: Line>(line: &L, clock: u32, jobs: &[Option<Job>], limit: u32) -> u32
-    ensures { result ≡ undue_all (meaning line.now) clock 0 jobs.now limit }
+    ensures { result ≡ undue_all (L.meaning line.now) clock 0 jobs.now limit }
 {
     let mut rest = limit;
     for i in 0..jobs.len() {

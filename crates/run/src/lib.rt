@@ -87,8 +87,8 @@ impl Play {
         mode: usize,
         cost: u32,
     ) -> Result<(), Refusal>
-        ensures answer { result ≡ release_answer (meaning line.now) (course self.old) place mode cost }
-        ensures after { course self.new ≡ after_release (meaning line.now) (course self.old) place mode cost }
+        ensures answer { result ≡ release_answer (L.meaning line.now) (course self.old) place mode cost }
+        ensures after { course self.new ≡ after_release (L.meaning line.now) (course self.old) place mode cost }
     {
         self.may_release(line, place, mode, cost)?;
         self.jobs[place] = Some(Job {
@@ -101,8 +101,8 @@ impl Play {
 
     /// Advances by a number of ticks, or up to the one in which a job is late.
     pub fn advance<L: Line>(&mut self, line: &L, ticks: u32) -> Result<Advance, Refusal>
-        ensures answer { result ≡ advance_answer (meaning line.now) (course self.old) ticks }
-        ensures after { course self.new ≡ after_advance (meaning line.now) (course self.old) ticks }
+        ensures answer { result ≡ advance_answer (L.meaning line.now) (course self.old) ticks }
+        ensures after { course self.new ≡ after_advance (L.meaning line.now) (course self.old) ticks }
     {
         self.may_advance(ticks)?;
         let from = self.clock;
@@ -115,7 +115,7 @@ impl Play {
 
     /// The longest time that a job of a place and mode took; 0 before one has finished.
     pub fn worst<L: Line>(&self, line: &L, place: usize, mode: usize) -> Result<u32, Refusal>
-        ensures { result ≡ worst_answer (meaning line.now) (course self.now) place mode }
+        ensures { result ≡ worst_answer (L.meaning line.now) (course self.now) place mode }
     {
         if place >= PLACES || mode >= MODES {
             return Err(Refusal::OutOfRange);
@@ -146,7 +146,7 @@ impl Play {
         mode: usize,
         cost: u32,
     ) -> Result<(), Refusal>
-        ensures { result ≡ release_answer (meaning line.now) (course self.now) place mode cost }
+        ensures { result ≡ release_answer (L.meaning line.now) (course self.now) place mode cost }
     {
         if place >= PLACES || mode >= MODES || cost == 0 || cost > WINDOW {
             return Err(Refusal::OutOfRange);

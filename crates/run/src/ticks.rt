@@ -18,7 +18,7 @@ impl Play {
     pub fn run_to<L: Line>(&mut self, line: &L, end: u32)
         requires { (course self.old).clock ≤ end }
         ensures later { (course self.old).clock ≤ (course self.new).clock }
-        ensures state { course self.new ≡ after_ticks (meaning line.now) (end - (course self.old).clock) (course self.old) }
+        ensures state { course self.new ≡ after_ticks (L.meaning line.now) (end - (course self.old).clock) (course self.old) }
     {
         while self.clock < end && self.late.is_none() {
             self.stride(line, end - self.clock);
@@ -30,7 +30,7 @@ impl Play {
         requires on { (course self.old).late ≡ None }
         requires some { 1 ≤ limit }
         requires fits { (course self.old).clock + limit < 4294967296 }
-        ensures { Strides (meaning line.now) limit (course self.old) (course self.new) }
+        ensures { Strides (L.meaning line.now) limit (course self.old) (course self.new) }
     {
         let calm = self.calm(line, limit);
         if calm == 0 {
@@ -42,7 +42,7 @@ impl Play {
 
     /// At most `limit` ticks in which one job runs on, or none, and nothing else happens.
     fn calm<L: Line>(&self, line: &L, limit: u32) -> u32
-        ensures { result ≡ calm (meaning line.now) (course self.now) limit }
+        ensures { result ≡ calm (L.meaning line.now) (course self.now) limit }
     {
         let place = idle_above(&self.jobs);
         let slot = if place < PLACES {
@@ -68,7 +68,7 @@ impl Play {
     /// One tick.
     fn tick<L: Line>(&mut self, line: &L)
         requires { (course self.old).clock + 1 < 4294967296 }
-        ensures { course self.new ≡ ticked (meaning line.now) (course self.old) }
+        ensures { course self.new ≡ ticked (L.meaning line.now) (course self.old) }
     {
         self.clock += 1;
         self.serve();
