@@ -1,5 +1,5 @@
 -- What the judge of the table's line says to a bench that has just its 256 cells. Assumes nothing.
-use Rattle.std.proofs.Common.{◌≡◌, ℕ, false, ltb, List, [], ◌++◌, length, drop, Ok, Err, sym, refl, ap, ◌∙◌, append-nil, arith}
+use Rattle.std.proofs.Common.{◌≡◌, ℕ, false, ltb, List, ◌++◌, length, Ok, Err, ap, ◌∙◌, append-nil, arith}
 use Rattle.std.proofs.lemmas.List.{drop_all}
 use Rattle.std.proofs.lemmas.Bool.{cond-false, le-ltb}
 use Rattle.line.specs.Meaning.{Meaning}

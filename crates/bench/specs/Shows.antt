@@ -1,5 +1,5 @@
 -- What show answers and leaves on a bench. Assumes nothing.
-use Rattle.std.specs.Prelude.{◌≡◌, ℕ, Bool, cond, ◌||◌, List, length, is_some, Some, None, Ok, Err, Option, Result, nat_lt}
+use Rattle.std.specs.Prelude.{◌≡◌, ℕ, cond, ◌||◌, List, length, is_some, Some, None, Ok, Err, Option, Result, nat_lt}
 use Rattle.line.specs.declared.refusal.Refusal.{Refusal}
 use Rattle.line.specs.declared.refusal.Refusal.TheVariants.{OutOfRange, TooShort, NotThere}
 use Rattle.line.specs.Answers.{Answer, and_then}

@@ -1,5 +1,5 @@
 -- What a bench is, as a plain value, and what its calls answer and leave. Assumes nothing.
-use Rattle.std.specs.Prelude.{◌≡◌, ℕ, ◌+◌, ◌*◌, Bool, true, false, cond, List, length, replicate, is_ok, Some, None, Ok, Err, Option, Result, ◌==◌, nat_lt, slice_index}
+use Rattle.std.specs.Prelude.{◌≡◌, ℕ, ◌+◌, ◌*◌, cond, List, length, replicate, is_ok, Some, None, Ok, Err, Option, Result, ◌==◌, nat_lt, slice_index}
 use Rattle.line.specs.Meaning.{task_at, modes_in}
 use Rattle.line.specs.declared.change.Change.{Change}
 use Rattle.line.specs.declared.refusal.Refusal.{Refusal}

@@ -1,6 +1,5 @@
 use Rattle.std.proofs.Common.{length, ap}
 use Rattle.std.proofs.lemmas.Result.{err_from_is_err_and}
-use Rattle.editor.specs.Desks.{Desk}
 use Rattle.bench.specs.State.{state, with_desk}
 use Rattle.bench.proofs.Closing.{draft_refuses}
 use Rattle.bench.proofs.bench.Bench.close_with.Goals as goal

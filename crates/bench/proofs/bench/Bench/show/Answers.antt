@@ -1,4 +1,4 @@
-use Rattle.std.proofs.Common.{◌≡◌, ap, ◌∙◌, subst}
+use Rattle.std.proofs.Common.{ap, ◌∙◌, subst}
 use Rattle.line.specs.Shows as lines
 use Rattle.table.specs.Items.{line_of, place_of}
 use Rattle.table.specs.Tables.{items, table_leaves}
