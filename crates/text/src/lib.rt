@@ -4,3 +4,6 @@
 #![tactic(auto)]
 
 pub mod reader;
+
+/// The forms of a line, under the path that they had before they had a crate of their own.
+pub use forms::form;

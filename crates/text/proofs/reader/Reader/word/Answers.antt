@@ -6,7 +6,7 @@ use Rattle.text.proofs.reader.Reader.word.Goals as goal
 pub invariant_of-self : goal.invariant_of-self
 invariant_of-self c =
     let s = c.args.self.now in
-    (word_within (at s) _ _ c.rest-rest.ensures s.inside c.word_len-len.ensures.within, (omega (arith, s.counted), tt))
+    record { inside = word_within (at s) _ _ c.rest-rest.ensures s.inside c.word_len-len.ensures.within; counted = omega (arith, s.counted) }
 
 pub returns-in-Some : goal.returns-in-Some
 returns-in-Some c =
