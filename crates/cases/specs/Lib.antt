@@ -1,3 +1,4 @@
 pub mod Guards
 pub mod Beside
 pub mod Examples
+pub mod Counting

@@ -4,7 +4,10 @@ ghost use Rattle.line.specs.Answers.{MadeBy};
 ghost use Rattle.line.specs.Meaning.{sole};
 ghost use Rattle.sporadic.specs.Tasks.{sporadic_answer};
 ghost use Rattle.cases.specs.Guards.{guarded_most, guarded_task};
-ghost use Rattle.std.proofs.Common.{rules, arith};
+ghost use Rattle.cases.specs.Counting.{counted_laws};
+ghost use Rattle.line.proofs.Facts.{sole_lawful};
+ghost use Rattle.std.proofs.Common.{arith};
+ghost use Rattle.std.proofs.lemmas.Bool.Decides.{nat_tests};
 
 use line::Line;
 use line::limits::WINDOW;
@@ -56,7 +59,7 @@ impl Line for Guarded {
 
     ghost lawful = { λ _. Unit {0} };
 
-    ghost keeps = { first_of (Prim.search rules, Prim.grind (arith, Self.row.coded.inj)) };
+    ghost keeps = { λ s h. sole_lawful _ (counted_laws s.cost s.period s.deadline (guarded_most s.cost s.period) s.some s.fits s.near s.first s.often (λ w some. Prim.grind (arith, nat_tests)) (λ w. Prim.grind (arith, nat_tests))) };
 
     fn count(&self) -> usize {
         1
