@@ -1,18 +1,11 @@
 //! The ticket of a draft.
 ghost use Rattle.std.specs.Prelude.{◌≡◌};
 
-/// The ticket of an open draft. It bears the number of its bench, and it has to be spent: letting
-/// one go asks for what nothing proves.
+/// The ticket of an open draft. It bears the number of its bench, and it has to be spent: it has no
+/// `Drop`, so the build refuses one that is let go.
+#[must_use]
 pub struct Draft {
     bench: u32,
-}
-
-impl Drop for Draft {
-    fn drop(self)
-        requires spent { ⊥ }
-    {
-        let Draft { bench: _ } = self;
-    }
 }
 
 impl Draft {

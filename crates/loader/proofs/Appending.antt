@@ -1,10 +1,10 @@
 -- Tasks that are appended, and what their closes make of the work sheet. Assumes nothing.
-use Rattle.std.proofs.Common.{◌≡◌, ℕ, ◌<◌, ◌≤◌, min, true, eqb, List, [], ◌∷◌, ◌++◌, length, take, drop, is_some, is_ok, Some, None, Ok, Err, Option, sym, refl, ap, ◌∙◌, subst, arith}
+use Rattle.std.proofs.Common.{◌≡◌, ℕ, ◌<◌, min, true, List, [], ◌∷◌, ◌++◌, length, take, drop, is_some, is_ok, Some, None, Ok, Err, Option, sym, refl, ap, ◌∙◌, subst, arith}
 use Rattle.std.proofs.lemmas.List.{drop_all, take_all}
 use Rattle.std.specs.Option.{option_map}
 use Rattle.std.proofs.lemmas.Bool.{cond-true, eqb-true, false≢true}
 use Rattle.std.proofs.lemmas.Bool.Decides.{nat_tests}
-use Rattle.table.specs.Items.{Item, sporadic, angular, entered, enter_answer, Leaves}
+use Rattle.table.specs.Items.{Item, sporadic, angular, entered, Leaves}
 use Rattle.table.specs.Tables.{items}
 use Rattle.line.specs.Answers.{Answer, and_then, sheet_answer}
 use Rattle.modes.specs.Plans.{whole_answer}

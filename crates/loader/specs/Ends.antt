@@ -1,5 +1,5 @@
 -- Tasks are read in the order of their places. Assumes nothing.
-use Rattle.std.specs.Prelude.{Bool, true, false, Some, None, Option, ◌==◌}
+use Rattle.std.specs.Prelude.{Bool, true, Some, None, Option, ◌==◌}
 use Rattle.editor.specs.Drafts.{Outline}
 use Rattle.editor.specs.Desks.{Desk}
 

@@ -1,5 +1,5 @@
 -- What a loader has read, and what its steps do to the work sheet. Assumes nothing.
-use Rattle.std.specs.Prelude.{◌≡◌, ℕ, Bool, true, false, ◌⊎◌, List, [], ◌∷◌, Ok, Err, Result}
+use Rattle.std.specs.Prelude.{◌≡◌, ℕ, Bool, ◌⊎◌, List, [], ◌∷◌, Ok, Err, Result}
 use Rattle.line.specs.declared.refusal.Refusal.TheVariants.{NoForm, NoMemory}
 use Rattle.table.specs.Items.{Item, Leaves}
 use Rattle.editor.specs.Desks.{desk}

@@ -5,7 +5,7 @@ use Rattle.line.specs.declared.refusal.Refusal.TheVariants.{NoForm, Trailer}
 use Rattle.line.specs.Answers.{Answer}
 use Rattle.modes.specs.Plans.{whole_answer}
 use Rattle.editor.specs.Drafts.{Outline}
-use Rattle.editor.specs.Desks.{Desk, clear, put_answer, after_put, open_answer, after_open, mode_answer, after_mode, linking_answer, after_linking, on_draft, after_close}
+use Rattle.editor.specs.Desks.{Desk, clear, put_answer, after_put, open_answer, after_open, mode_answer, after_mode, linking_answer, after_linking, after_close}
 use Rattle.forms.specs.declared.form.Form.{Form}
 use Rattle.forms.specs.declared.form.Form.TheVariants.{Sporadic, Angular, Mode, Link, End}
 use Rattle.faults.specs.declared.LineFault.{LineFault}

@@ -1,15 +1,14 @@
 -- The saved text loads as the tasks that it was saved from. Assumes nothing.
-use Rattle.std.proofs.Common.{◌≡◌, ℕ, ◌≤◌, cond, ltb, List, length, Ok, Err, Result, sym, ap, ◌∙◌, inl, inr, arith}
+use Rattle.std.proofs.Common.{◌≡◌, ℕ, ◌≤◌, List, length, Ok, Err, ap, ◌∙◌, inl, inr, arith}
 use Rattle.std.proofs.lemmas.Bool.{cond-false, le-ltb}
 use Rattle.line.specs.declared.refusal.Refusal.TheVariants.{OutOfRange}
 use Rattle.line.specs.Answers.{Answer, and_then, sheet_answer}
 use Rattle.table.specs.Items.{Item}
 use Rattle.editor.specs.Desks.{with_tasks}
 use Rattle.bench.specs.State.{State, edited, install_answer}
-use Rattle.faults.specs.declared.LoadFault.{LoadFault}
-use Rattle.store.specs.Loads.{Reading, load_answer, LoadDone}
+use Rattle.store.specs.Loads.{load_answer}
 use Rattle.save.specs.Texts.{text_of}
-use Rattle.save.specs.Saves.{ReadsOnly, Reloaded, LoadsBack}
+use Rattle.save.specs.Saves.{ReadsOnly, LoadsBack}
 
 -- Nothing is refused before the first line.
 accepted : (s : State) (bytes cells : ℕ) → bytes ≤ 65535 → sheet_answer cells ≡ Ok tt → install_answer s ≡ Ok tt → load_answer s bytes cells ≡ Ok tt

@@ -6,7 +6,6 @@ use Rattle.std.proofs.lemmas.Bool.{cond-true, cond-false, lt-ltb, le-ltb, eq-eqb
 use Rattle.line.specs.Meaning.{Task, task_at, gap_in}
 use Rattle.modes.specs.Plans.{Plan, right_gap}
 use Rattle.modes.specs.Plans as plans
-use Rattle.modes.specs.declared.graph.Mode.{Mode}
 use Rattle.sporadic.specs.Tasks.{sporadic_task}
 use Rattle.angular.specs.Tasks.{angular_task}
 use Rattle.table.specs.Items.{Item, Make, sporadic, angular, blank, task_of, is_angular, number_at, line_of}

@@ -1,5 +1,5 @@
 -- Reading a text line by line comes to the end that the whole text comes to. Assumes nothing.
-use Rattle.std.proofs.Common.{◌≡◌, ℕ, ◌<◌, ◌≤◌, Bool, true, false, ◌⊎◌, List, ◌++◌, length, take, is_ok, Ok, Err, Result, sym, refl, ap, ◌∙◌, subst, subst₂, inl, inr, arith, length-append}
+use Rattle.std.proofs.Common.{◌≡◌, ℕ, ◌<◌, ◌≤◌, Bool, true, false, ◌⊎◌, List, ◌++◌, length, take, is_ok, Ok, Err, Result, sym, ap, ◌∙◌, subst, subst₂, inl, inr, arith, length-append}
 use lib.Seq.{take-append-le}
 use Rattle.std.proofs.lemmas.List.{take_all}
 use Rattle.line.specs.declared.refusal.Refusal.TheVariants.{NoMemory, Trailer}
@@ -11,14 +11,13 @@ use Rattle.std.proofs.lemmas.Bool.Decides.{nat_tests}
 use Rattle.editor.specs.Desks as desks
 use Rattle.bench.specs.State.{State, edited, after_install}
 use Rattle.forms.specs.declared.form.Form.{Form}
-use Rattle.forms.specs.Format.{spell}
 use Rattle.forms.specs.Places.{At, rest_of}
 use Rattle.forms.specs.Reads.{Spelled}
 use Rattle.forms.proofs.Readings.{spell_some}
 use Rattle.faults.specs.declared.LineFault.{LineFault}
 use Rattle.faults.specs.declared.LoadFault.{LoadFault}
 use Rattle.faults.specs.Faults.{in_text, placed}
-use Rattle.loader.specs.Progress.{Progress, stepping, is_end}
+use Rattle.loader.specs.Progress.{Progress}
 use Rattle.loader.specs.Loaders.{SheetAfter, NextDone}
 use Rattle.store.specs.Loads.{Loads, Reading, LastDone, ReadDone, load_answer, Loaded}
 use Rattle.store.specs.Loads.Loads.{cut_off, formless, refused, onward, whole, followed}

@@ -28,6 +28,6 @@ returns c =
     saved is c.args.out.now c.write_tasks.new.out c.write_form.new.out c.in_ok-at.at c.write_form.result c.ok_or-2.result c.trailer-end.result
     c.trailer-end.ensures
     (omega (arith, c.measure-extent.ensures.len, c.form_len.ensures.is, room_there (c.measure-extent.result.len + c.form_len.result) (length c.args.out.now) c.in_ok-check_room.ensures))
-    (subst (λ (o : Option ℕ). MatchOption o ⊥ (λ end. Wrote c.args.out.now 0 (spelled (forms_of is)) c.write_tasks.new.out end)) c.in_ok-at.ensures.ok-part c.write_tasks.ensures)
+    (subst (λ (o : Option ℕ). MatchOption o ⊥ (λ end. Wrote c.args.out.now 0 (spelled (forms_of is)) c.write_tasks.new.out end)) c.in_ok-at.ensures.ok_part c.write_tasks.ensures)
     c.write_form.ensures
     c.ok_or-2.ensures.value

@@ -1,4 +1,4 @@
-use Rattle.std.proofs.Common.{◌≤◌, List, length, Result}
+use Rattle.std.proofs.Common.{List, length, Result}
 use Rattle.table.specs.Items.{Item}
 use Rattle.forms.specs.Places.{rest_of}
 use Rattle.text.specs.Readers.{at}

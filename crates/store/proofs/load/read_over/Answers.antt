@@ -1,4 +1,4 @@
-use Rattle.std.proofs.Common.{◌≡◌, List, length, drop, vec_items, sym, ap, ◌∙◌, subst, subst₂, arith}
+use Rattle.std.proofs.Common.{◌≡◌, length, drop, sym, ap, ◌∙◌, subst₂, arith}
 use Rattle.table.specs.Tables.{items}
 use Rattle.loader.specs.Loaders.{SheetAfter}
 use Rattle.store.proofs.Following.{refilled_whole}
