@@ -49,6 +49,17 @@ mod tests {
         Ok(())
     }
 
+    // Whether the bench refuses a draft of task 21; one that it gives is abandoned.
+    fn opening_refused(bench: &mut Bench) -> bool {
+        match bench.open(21, 0) {
+            Ok(draft) => {
+                bench.abandon(draft);
+                false
+            }
+            Err(_) => true,
+        }
+    }
+
     #[test]
     fn tickets(rt: HostRuntime) -> Result<(), Fail> {
         let heap = rt.alloc();
@@ -67,7 +78,7 @@ mod tests {
         other.abandon(draft);
         assert_eq!(rt; stranger, 13);
         assert_eq!(rt; whole, 20);
-        assert!(rt; first.open(21, 0).is_err());
+        assert!(rt; opening_refused(&mut first));
         Ok(())
     }
 
