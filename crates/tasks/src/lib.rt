@@ -7,5 +7,6 @@
 #![tactic(auto)]
 
 pub use angular;
-pub use modes::graph;
 pub use sporadic;
+
+pub mod graph;
