@@ -6,7 +6,8 @@ use Rattle.line.specs.declared.refusal.Refusal.TheVariants.{DraftOpen, NoTicket,
 use Rattle.line.specs.declared.change.Change.{Change}
 use Rattle.line.specs.Meaning.{task_at}
 use Rattle.line.specs.Changes.{change_numbers, change_answer}
-use Rattle.line.specs.Answers.{Answer, and_then, sheet_answer}
+use Rattle.line.specs.Answers.{Answer, and_then}
+pub use Rattle.line.specs.Answers.{sheet_answer}
 use Rattle.modes.specs.Plans.{Plan, empty_plan, mode_numbers, link_numbers, add_answer, after_add, link_answer, after_link, whole_answer}
 use Rattle.sporadic.specs.Tasks.{sporadic_answer}
 use Rattle.table.specs.Numbers.{task_numbers}

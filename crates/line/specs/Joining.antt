@@ -66,7 +66,7 @@ module _ (a b : Meaning) (LA LB : ℕ → List ℕ → List ℕ → Type 0) (cou
   may : show_answer (joined a b).count place window (length sheet) (length list) ≡ Ok tt
   may = subst (λ n. show_answer n place window (length sheet) (length list) ≡ Ok tt) same (sym ok)
 
-  shows_top : (k : ℕ) (r : Result ℕ Refusal) → Top k ≡ side_of a.count place → ShowDone a (LA k) k window sheet sheet' list list' r → ShowDone (joined a b) Leaves place window sheet sheet' list list' r
+  pub shows_top : (k : ℕ) (r : Result ℕ Refusal) → Top k ≡ side_of a.count place → ShowDone a (LA k) k window sheet sheet' list list' r → ShowDone (joined a b) Leaves place window sheet sheet' list list' r
   shows_top k r e done =
       let t = top_side a.count place k e in
       show_part (joined a b) a Leaves (LA k) place k window sheet sheet' list list' r may (omega (arith, t.0)) (omega (arith, t.0, t.1))
@@ -74,7 +74,7 @@ module _ (a b : Meaning) (LA LB : ℕ → List ℕ → List ℕ → Type 0) (cou
       (λ h. subst (λ x. MatchBool x (LA place sheet sheet') (LB (place - a.count) sheet sheet')) (sym (lt-ltb place a.count t.1)) (subst (λ x. LA x sheet sheet') t.0 h))
       done
 
-  shows_low : (k : ℕ) (r : Result ℕ Refusal) → Low k ≡ side_of a.count place → ShowDone b (LB k) k window sheet sheet' list list' r → ShowDone (joined a b) Leaves place window sheet sheet' list list' r
+  pub shows_low : (k : ℕ) (r : Result ℕ Refusal) → Low k ≡ side_of a.count place → ShowDone b (LB k) k window sheet sheet' list list' r → ShowDone (joined a b) Leaves place window sheet sheet' list list' r
   shows_low k r e done =
       let t = low_side a.count place k e in
       let p = shows (joined a b).count place window (length sheet) (length list) may in

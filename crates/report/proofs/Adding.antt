@@ -1,5 +1,5 @@
 -- One more line, and what comes of it all. Assumes nothing.
-use Rattle.std.proofs.Common.{◌≡◌, ℕ, ◌+◌, List, [], ◌++◌, length, Ok, Err, string_bytes, Result, String, sym, refl, ap, ◌∙◌, subst, inl, inr, append_assoc, add-one, MatchResult}
+use Rattle.std.proofs.Common.{◌≡◌, ℕ, ◌+◌, List, ◌++◌, length, Ok, Err, string_bytes, Result, String, sym, ap, ◌∙◌, subst, inl, inr, append_assoc, add-one, MatchResult}
 use Rattle.std.specs.declared.alloc.Global.{Global}
 use Rattle.line.specs.declared.refusal.Refusal.{Refusal}
 use Rattle.line.specs.declared.refusal.Refusal.TheVariants.{NoMemory}
@@ -7,7 +7,7 @@ use Rattle.bench.specs.State.{State, fresh, edited, after_judge}
 use Rattle.editor.specs.Desks.{clear, with_tasks}
 use Rattle.faults.specs.declared.LoadFault.{LoadFault}
 use Rattle.store.specs.Loads.{Loaded, Why}
-use Rattle.report.specs.Words.{mode_text, modes_text, task_text, tasks_text, judged_text, judged_of, fault_text, ReportDone}
+use Rattle.report.specs.Words.{mode_text, modes_text, task_text, tasks_text, judged_text, fault_text, ReportDone}
 
 pub more_modes : (task : ℕ) (bound : ℕ → ℕ) (k b : ℕ) (first now line after : List ℕ) → now ≡ first ++ modes_text task bound k → b ≡ bound k → line ≡ mode_text task k b → after ≡ now ++ line → after ≡ first ++ modes_text task bound (k + 1)
 more_modes task bound k b first now line after e f g h =

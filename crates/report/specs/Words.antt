@@ -12,7 +12,7 @@ use Rattle.editor.specs.Desks.{clear, with_tasks}
 use Rattle.bench.specs.State.{State, fresh, edited, after_judge, bound_answer}
 use Rattle.bench.specs.declared.verdict.Verdict.{Verdict}
 use Rattle.bench.specs.declared.verdict.Verdict.TheVariants as verdict
-use Rattle.faults.specs.Faults.{layer_word}
+pub use Rattle.faults.specs.Faults.{layer_word}
 use Rattle.faults.specs.declared.LoadFault.{LoadFault}
 use Rattle.store.specs.Loads.{Reading, Why}
 

@@ -1,4 +1,4 @@
-use Rattle.std.proofs.Common.{◌++◌, string_bytes, ap, ◌∙◌}
+use Rattle.std.proofs.Common.{string_bytes, ◌∙◌}
 use Rattle.bench.specs.State.{state}
 use Rattle.report.specs.Words.{bound_shown}
 use Rattle.report.proofs.Adding.{more_modes}
