@@ -1,9 +1,12 @@
 //! Reading a list call by call.
+ghost use Rattle.std.specs.Prelude.{◌≡◌, option_map};
+ghost use Rattle.calls.specs.Lists.{call_named, lending_call, call_of, read, load_length, load_of, first_read};
+
 use crate::call::Call;
 use crate::names::{
     length_of, memory_of, plain, with_five, with_four, with_one, with_three, with_two,
 };
-use crate::words::{LINE_FEED, NUMBERS, SPACE, cut_at, numbers_of};
+use crate::words::{LINE_FEED, SPACE, cut_at, numbers_of};
 
 /// The first call of a list, if its line is one; the text that it brings; and the rest of the list.
 #[derive(Drop)]
@@ -13,41 +16,56 @@ pub struct Step<'a> {
     pub rest: &'a [u8],
 }
 
-/// The call of that name whose numbers come first of the five.
-fn named(name: &[u8], count: usize, numbers: [u32; NUMBERS]) -> Option<Call> {
-    match count {
-        0 => plain(name),
-        1 => with_one(name, numbers[0]),
-        2 => with_two(name, numbers[0], numbers[1]),
-        3 => with_three(name, numbers[0], numbers[1], numbers[2]),
-        4 => with_four(name, numbers[0], numbers[1], numbers[2], numbers[3]),
-        5 => with_five(
-            name, numbers[0], numbers[1], numbers[2], numbers[3], numbers[4],
-        ),
+/// The call of that name and those numbers.
+fn named(name: &[u8], numbers: &[u32]) -> Option<Call>
+    ensures { result ≡ call_named name.now numbers.now }
+{
+    match numbers {
+        [] => plain(name),
+        [a] => with_one(name, *a),
+        [a, b] => with_two(name, *a, *b),
+        [a, b, c] => with_three(name, *a, *b, *c),
+        [a, b, c, d] => with_four(name, *a, *b, *c, *d),
+        [a, b, c, d, e] => with_five(name, *a, *b, *c, *d, *e),
         _ => None,
     }
 }
 
 /// The call of a line that says what is lent, and how much of it.
-fn lending(name: &[u8], words: Option<&[u8]>) -> Option<Call> {
+fn lending(name: &[u8], words: Option<&[u8]>) -> Option<Call>
+    ensures { result ≡ lending_call name.now (option_map (λ w. w.now) words.entry) }
+{
     let length = length_of(name)?;
     let memory = memory_of(words?)?;
     Some(Call::Lend(memory, length))
 }
 
 /// The call that a line is, if it is one.
-fn call_of(line: &[u8]) -> Option<Call> {
+fn call_of(line: &[u8]) -> Option<Call>
+    ensures { result ≡ call_of line.now }
+{
     let (name, words) = cut_at(line, SPACE);
     if let Some(call) = lending(name, words) {
         return Some(call);
     }
-    let mut numbers = [0; NUMBERS];
-    let count = numbers_of(words, &mut numbers)?;
-    named(name, count, numbers)
+    let (count, numbers) = numbers_of(words)?;
+    named(name, &numbers[0..count])
+}
+
+/// The length of the text that a call brings, if it brings one.
+fn load_length(call: Option<Call>) -> Option<u32>
+    ensures { result ≡ load_length call }
+{
+    match call {
+        Some(Call::Load(length)) => Some(length),
+        _ => None,
+    }
 }
 
 /// A load with its text, which a byte has to follow.
-fn with_text(length: u32, rest: &[u8]) -> Step<'_> {
+fn with_text(length: u32, rest: &[u8]) -> Step<'_>
+    ensures { read result ≡ load_of length rest.now }
+{
     let end = length as usize;
     if end < rest.len() {
         Step {
@@ -65,12 +83,15 @@ fn with_text(length: u32, rest: &[u8]) -> Step<'_> {
 }
 
 /// The first call of a list.
-pub fn first_call(list: &[u8]) -> Step<'_> {
+pub fn first_call(list: &[u8]) -> Step<'_>
+    ensures { read result ≡ first_read list.now }
+{
     let (line, after) = cut_at(list, LINE_FEED);
     let rest = after.unwrap_or(b"");
-    match call_of(line) {
-        Some(Call::Load(length)) => with_text(length, rest),
-        call => Step {
+    let call = call_of(line);
+    match load_length(call) {
+        Some(length) => with_text(length, rest),
+        None => Step {
             call,
             text: b"",
             rest,

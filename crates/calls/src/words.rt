@@ -1,6 +1,7 @@
 //! The words of a line, and the numbers that they spell.
-ghost use Rattle.std.specs.Prelude.{◌≡◌, ◌≤◌, length};
-ghost use Rattle.calls.specs.Words.{other, prefix_length};
+ghost use Rattle.std.specs.Prelude.{◌≡◌, ◌≤◌, length, take, option_map, Some, None, IfSome, MatchOption};
+ghost use Rattle.calls.specs.Words.{other, prefix_length, front, behind, number_32};
+ghost use Rattle.calls.specs.Lists.{numbers_in};
 
 /// What stands between two words.
 pub const SPACE: u8 = b' ';
@@ -32,7 +33,10 @@ pub fn prefix_len(bytes: &[u8], end: u8) -> usize
 }
 
 /// What stands in front of the first byte `end`, and what follows it, if it comes.
-pub fn cut_at(bytes: &[u8], end: u8) -> (&[u8], Option<&[u8]>) {
+pub fn cut_at(bytes: &[u8], end: u8) -> (&[u8], Option<&[u8]>)
+    ensures front { result.0.now ≡ front bytes.now end }
+    ensures behind { option_map (λ rest. rest.now) result.1 ≡ behind bytes.now end }
+{
     let len = prefix_len(bytes, end);
     if len < bytes.len() {
         (&bytes[0..len], Some(&bytes[len + 1..]))
@@ -42,7 +46,9 @@ pub fn cut_at(bytes: &[u8], end: u8) -> (&[u8], Option<&[u8]>) {
 }
 
 /// The number that a word spells, if it is one of 32 bits.
-fn number_of(word: &[u8]) -> Option<u32> {
+fn number_of(word: &[u8]) -> Option<u32>
+    ensures { result ≡ number_32 word.now }
+{
     let mut number: u32 = 0;
     if word.is_empty() {
         return None;
@@ -58,19 +64,26 @@ fn number_of(word: &[u8]) -> Option<u32> {
     Some(number)
 }
 
-/// Reads the numbers of a line after its first word, and answers how many there are.
-pub fn numbers_of(words: Option<&[u8]>, numbers: &mut [u32; NUMBERS]) -> Option<usize> {
+/// The numbers of a line after its first word: how many there are, and the cells that begin with
+/// them.
+pub fn numbers_of(words: Option<&[u8]>) -> Option<(usize, [u32; NUMBERS])>
+    ensures within { IfSome result (λ r. r.0 ≤ 5) }
+    ensures numbers { MatchOption result
+        (numbers_in (option_map (λ w. w.now) words.entry) ≡ None)
+        (λ r. numbers_in (option_map (λ w. w.now) words.entry) ≡ Some (take r.0 r.1)) }
+{
     let mut left = words;
+    let mut numbers = [0; NUMBERS];
     for i in 0..NUMBERS {
         let Some(text) = left else {
-            return Some(i);
+            return Some((i, numbers));
         };
         let (word, more) = cut_at(text, SPACE);
         numbers[i] = number_of(word)?;
         left = more;
     }
     match left {
-        None => Some(NUMBERS),
+        None => Some((NUMBERS, numbers)),
         Some(_) => None,
     }
 }

@@ -1,0 +1,74 @@
+-- What a list of calls says, line by line. Assumes nothing.
+use Rattle.std.specs.Prelude.{ℕ, zero, suc, ◌+◌, cond, List, [], ◌∷◌, ◌++◌, length, take, drop, Some, None, Option, nat_lt, unwrap_or}
+use Rattle.std.specs.Option.{option_and_then, option_or}
+use Rattle.calls.specs.Names.{plain_call, call_of_one, call_of_two, call_of_three, call_of_four, call_of_five, length_named, memory_named}
+use Rattle.calls.specs.Words.{front, behind, number_32}
+use Rattle.calls.specs.declared.call.Call.{Call}
+use Rattle.calls.specs.declared.call.Call.TheVariants as call
+use Rattle.calls.specs.declared.call.Length.{Length}
+use Rattle.calls.specs.declared.call.Memory.{Memory}
+use Rattle.calls.specs.declared.list.Step.{Step}
+
+-- The numbers that the words of a line spell, behind those that were seen; nothing where a word spells none, or where
+-- more than n words are left.
+abbrev pub numbers_from : ℕ → List ℕ → Option (List ℕ) → Option (List ℕ)
+numbers_from zero seen None = Some seen
+numbers_from zero seen (Some text) = None
+numbers_from (suc n) seen None = Some seen
+numbers_from (suc n) seen (Some text) = option_and_then (λ v. numbers_from n (seen ++ (v ∷ [])) (behind text 32)) (number_32 (front text 32))
+
+-- At most five numbers.
+abbrev pub numbers_in : Option (List ℕ) → Option (List ℕ)
+numbers_in words = numbers_from 5 [] words
+
+-- The call of a name and its numbers.
+abbrev pub call_named : List ℕ → List ℕ → Option Call
+call_named w [] = plain_call w
+call_named w (a ∷ []) = call_of_one w a
+call_named w (a ∷ (b ∷ [])) = call_of_two w a b
+call_named w (a ∷ (b ∷ (c ∷ []))) = call_of_three w a b c
+call_named w (a ∷ (b ∷ (c ∷ (d ∷ [])))) = call_of_four w a b c d
+call_named w (a ∷ (b ∷ (c ∷ (d ∷ (e ∷ []))))) = call_of_five w a b c d e
+call_named w (a ∷ (b ∷ (c ∷ (d ∷ (e ∷ (f ∷ r)))))) = None
+
+-- A call that lends memory says how much of which.
+abbrev pub lent_by : Option Length → Option Memory → Option Call
+lent_by None m = None
+lent_by (Some l) None = None
+lent_by (Some l) (Some m) = Some (call.Lend m l)
+
+abbrev pub lending_call : List ℕ → Option (List ℕ) → Option Call
+lending_call w words = lent_by (length_named w) (option_and_then memory_named words)
+
+-- The call that a line is: its first word is the name, and the words behind it are what is lent, or the numbers.
+abbrev pub call_of : List ℕ → Option Call
+call_of line = option_or (lending_call (front line 32) (behind line 32)) (option_and_then (call_named (front line 32)) (numbers_in (behind line 32)))
+
+-- A call, the text that it brings, and the rest of the list.
+pub record Read : Type 0 where
+  pub call : Option Call
+  pub text : List ℕ
+  pub rest : List ℕ
+
+abbrev pub read : Step → Read
+read s = record { call = s.call; text = s.text.now; rest = s.rest.now }
+
+abbrev pub alone : Option Call → List ℕ → Read
+alone c rest = record { call = c; text = []; rest = rest }
+
+-- A load brings a text of so many bytes, which a byte more has to follow; else the line is no call.
+abbrev pub load_of : ℕ → List ℕ → Read
+load_of n rest = cond (nat_lt n (length rest)) (record { call = Some (call.Load n); text = take n rest; rest = drop (n + 1) rest }) (alone None rest)
+
+-- The length of the text that a call brings, if it brings one.
+abbrev pub load_length : Option Call → Option ℕ
+load_length (Some (call.Load n)) = Some n
+load_length c = None
+
+abbrev pub opened : Option ℕ → Option Call → List ℕ → Read
+opened None c rest = alone c rest
+opened (Some n) c rest = load_of n rest
+
+-- The first line of a list, without its line feed, is a call or none; the rest is what follows the line, and the text that it brings.
+abbrev pub first_read : List ℕ → Read
+first_read list = opened (load_length (call_of (front list 10))) (call_of (front list 10)) (unwrap_or (behind list 10) [])
