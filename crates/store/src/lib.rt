@@ -5,7 +5,7 @@
 //! carries its number, the line, that line's byte place and the layer that refused.
 #![tactic(auto)]
 
-/// Why a text is refused, under the path that it had before it had a crate of its own.
+/// Why a text is refused: the crate `faults`.
 pub use faults as fault;
 
 pub mod load;

@@ -5,5 +5,5 @@
 
 pub mod reader;
 
-/// The forms of a line, under the path that they had before they had a crate of their own.
+/// The forms of a line: a module of the crate `forms`.
 pub use forms::form;
