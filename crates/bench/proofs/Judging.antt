@@ -14,7 +14,7 @@ module _ (m : Meaning) (cells : List ℕ) (long : length cells ≡ 256) where
   answered : judge_answer m (length cells) ≡ Ok (verdict_of m)
   answered = cond-false _ _ _ enough
 
-  pub found : (v : Verdict) → Ok v ≡ judge_answer m (length cells) → v ≡ verdict_of m
+  pub found : (v : Verdict ℕ) → Ok v ≡ judge_answer m (length cells) → v ≡ verdict_of m
   found v e = cc (e, answered)
 
   pub never_short : (e : Refusal) → Err e ≡ judge_answer m (length cells) → ⊥

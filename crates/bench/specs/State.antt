@@ -5,8 +5,8 @@ use Rattle.line.specs.declared.change.Change.{Change}
 use Rattle.line.specs.declared.refusal.Refusal.{Refusal}
 use Rattle.line.specs.declared.refusal.Refusal.TheVariants.{OutOfRange, NoTicket, NotThere, NoMemory}
 use Rattle.response.specs.Verdicts.{verdict_of, bound_cells}
-use Rattle.response.specs.declared.Verdict.{Verdict as LineVerdict}
-use Rattle.response.specs.declared.Verdict.TheVariants.{Fits as lineFits, Over as lineOver}
+use Rattle.response.specs.declared.Verdict.{Verdict}
+use Rattle.response.specs.declared.Verdict.TheVariants.{Fits, Over}
 use Rattle.line.specs.Answers.{Answer, and_then, sheet_answer}
 use Rattle.modes.specs.Plans.{mode_numbers, link_numbers}
 use Rattle.table.specs.Numbers.{task_numbers}
@@ -15,15 +15,13 @@ use Rattle.editor.specs.Desks as desks
 use Rattle.editor.specs.Desks.{Desk, desk, clear, undrafted, CloseLeaves, ChangeLeaves}
 use Rattle.bench.specs.declared.bench.Bench.{Bench}
 use Rattle.bench.specs.declared.ticket.Draft.{Draft}
-use Rattle.bench.specs.declared.verdict.Verdict.{Verdict}
-use Rattle.bench.specs.declared.verdict.Verdict.TheVariants as v
 
--- A bench: its number, the tasks and the open draft, the verdict that stands, and the bounds that are shown,
+-- A bench: its number, the tasks and the open draft, the verdict that stands, if any, and the bounds that are shown,
 -- that of mode i of place p at p × 16 + i.
 pub record State : Type 0 where
   pub id : ℕ
   pub desk : Desk
-  pub verdict : Verdict
+  pub verdict : Option (Verdict ℕ)
   pub bounds : List ℕ
 
 abbrev pub state : Bench → State
@@ -35,7 +33,7 @@ no_bounds = replicate 256 0
 
 -- A new bench: no task, no draft, no verdict, and all bounds 0.
 abbrev pub fresh : ℕ → State
-fresh id = record { id = id; desk = clear; verdict = v.None; bounds = no_bounds }
+fresh id = record { id = id; desk = clear; verdict = None; bounds = no_bounds }
 
 -- The bench with another desk: tasks and draft.
 abbrev pub with_desk : State → Desk → State
@@ -43,7 +41,7 @@ with_desk s d = record { id = s.id; desk = d; verdict = s.verdict; bounds = s.bo
 
 -- The bench after an edit: the verdict is back to none, and all bounds to 0.
 abbrev pub edited : State → Desk → State
-edited s d = record { id = s.id; desk = d; verdict = v.None; bounds = no_bounds }
+edited s d = record { id = s.id; desk = d; verdict = None; bounds = no_bounds }
 
 -- put
 abbrev pub put_answer : State → ℕ → ℕ → ℕ → ℕ → ℕ → Answer
@@ -125,16 +123,16 @@ abbrev pub after_abandon : State → ℕ → State
 after_abandon s bench = cond (bench == s.id) (with_desk s (undrafted s.desk)) s
 
 -- A verdict on places as one on the numbers of the tasks there.
-abbrev pub on_numbers : List Item → LineVerdict → Verdict
-on_numbers is lineFits = v.Fits
-on_numbers is (lineOver place mode) = v.Over (number_at is place) mode
+abbrev pub on_numbers : List Item → Verdict ℕ → Verdict ℕ
+on_numbers is Fits = Fits
+on_numbers is (Over place mode) = Over (number_at is place) mode
 
 -- judge answers the verdict of the response-time test over the table; it and the bounds stand until an edit.
-abbrev pub judgement : State → Verdict
+abbrev pub judgement : State → Verdict ℕ
 judgement s = on_numbers s.desk.tasks (verdict_of (line_of s.desk.tasks))
 
 abbrev pub after_judge : State → State
-after_judge s = record { id = s.id; desk = s.desk; verdict = judgement s; bounds = bound_cells (line_of s.desk.tasks) }
+after_judge s = record { id = s.id; desk = s.desk; verdict = Some (judgement s); bounds = bound_cells (line_of s.desk.tasks) }
 
 -- The bound shown of a mode of the task at a place.
 abbrev pub bound_at_place : State → Option ℕ → ℕ → Result ℕ Refusal

@@ -10,11 +10,12 @@ pub mod judging;
 pub mod reading;
 pub mod showing;
 
-/// A task table with its draft, verdict and bounds, and the number that its tickets bear.
+/// A task table with its draft, its bounds, the verdict if it has been judged since it last changed, and
+/// the number that its tickets bear.
 #[derive(Drop)]
 pub struct Bench {
     id: u32,
     editor: Editor,
-    verdict: Verdict,
+    verdict: Option<Verdict>,
     bounds: [u32; CELLS],
 }

@@ -10,7 +10,7 @@ use Rattle.response.specs.declared.Verdict.{Verdict}
 use Rattle.cases.specs.Beside.{verdict_after, beside_answer, beside_cells}
 
 -- A line m that is the two joined, judged over cells enough, answers and leaves what is said of the two.
-pub judged_beside : (a b m : Meaning) (u : Unit {0}) (cells cells' : List ℕ) (r : Result Verdict Refusal)
+pub judged_beside : (a b m : Meaning) (u : Unit {0}) (cells cells' : List ℕ) (r : Result (Verdict ℕ) Refusal)
     → m ≡ joined a b
     → Ok u ≡ join_answer a b
     → 256 ≤ length cells

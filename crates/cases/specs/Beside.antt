@@ -16,13 +16,13 @@ abbrev pub guarded_line : Guarded → Meaning
 guarded_line s = sole (guarded_task s.cost s.period s.deadline)
 
 -- The verdict where a check passes, else the check's refusal.
-abbrev pub verdict_after : Answer → Result Verdict Refusal → Result Verdict Refusal
+abbrev pub verdict_after : Answer → Result (Verdict ℕ) Refusal → Result (Verdict ℕ) Refusal
 verdict_after (Ok u) next = next
 verdict_after (Err e) next = Err e
 
 -- What is answered over that many cells: too few are refused first, then lines that may not be joined; else it is
 -- what the judge answers of the joined line.
-abbrev pub beside_answer : Meaning → Meaning → ℕ → Result Verdict Refusal
+abbrev pub beside_answer : Meaning → Meaning → ℕ → Result (Verdict ℕ) Refusal
 beside_answer top low cells = cond (nat_lt cells 256) (Err TooShort) (verdict_after (join_answer top low) (judge_answer (joined top low) cells))
 
 -- What is left of the cells: a refusal changes none; else they are as the judge leaves them.

@@ -6,15 +6,13 @@ use Rattle.line.specs.Meaning.{Task, task_at, most_in}
 use Rattle.line.specs.Joins.{joined}
 use Rattle.response.specs.Bounds.{bound_of}
 use Rattle.response.specs.Verdicts.{verdict_of, shown_bound, bound_cells}
-use Rattle.response.specs.declared.Verdict.{Verdict as LineVerdict}
-use Rattle.response.specs.declared.Verdict.TheVariants.{Over as lineOver}
+use Rattle.response.specs.declared.Verdict.{Verdict}
+use Rattle.response.specs.declared.Verdict.TheVariants.{Fits, Over}
 use Rattle.line.specs.Meaning.{sole}
 use Rattle.sporadic.specs.Tasks.{sporadic_task}
 use Rattle.modes.specs.Plans.{Plan, empty_plan, with_mode, with_gap}
 use Rattle.table.specs.Items.{Item, sporadic, angular, line_of, place_of}
 use Rattle.bench.specs.State.{on_numbers}
-use Rattle.bench.specs.declared.verdict.Verdict.{Verdict}
-use Rattle.bench.specs.declared.verdict.Verdict.TheVariants.{Fits, Over}
 use Rattle.cases.specs.Guards.{guarded_task}
 
 -- ---- The tables
@@ -71,11 +69,11 @@ abbrev pub shown_by : List Item → ℕ → ℕ → ℕ
 shown_by is number mode = shown_bound (line_of is) (place_by is number) mode
 
 -- The verdict by place and mode.
-abbrev pub verdict_by : List Item → LineVerdict
+abbrev pub verdict_by : List Item → Verdict ℕ
 verdict_by is = verdict_of (line_of is)
 
 -- The verdict by task and mode, as the bench gives it.
-abbrev pub bench_verdict : List Item → Verdict
+abbrev pub bench_verdict : List Item → Verdict ℕ
 bench_verdict is = on_numbers is (verdict_by is)
 
 -- The bound of task 7 below one other task.
@@ -88,8 +86,8 @@ pub data Value : Type 0 where
   work : List ℕ → Value
   bounds : List (Option ℕ) → Value
   shown : List ℕ → Value
-  places : LineVerdict → Value
-  bench : Verdict → Value
+  places : Verdict ℕ → Value
+  bench : Verdict ℕ → Value
 
 -- An example: what the definitions give, and what is wanted.
 pub record Example : Type 0 where
@@ -119,7 +117,7 @@ fits18 = gives (bench (bench_verdict (table_to 18))) (bench Fits)
 
 -- One tick less, and it is over at place 2, which is task 30; the bounds before that are shown, and its own is not.
 abbrev pub over17 : Example
-over17 = gives (places (verdict_by (table_to 17))) (places (lineOver 2 0))
+over17 = gives (places (verdict_by (table_to 17))) (places (Over 2 0))
 
 abbrev pub over_at30 : Example
 over_at30 = gives (bench (bench_verdict (table_to 17))) (bench (Over 30 0))

@@ -17,7 +17,7 @@ use table::table::Table;
 ///
 /// Fewer than 256 cells are refused, and then a table of 16 tasks, which leaves no room; a refusal
 /// changes no cell.
-pub fn judge_with(table: Table, own: Guarded, cells: &mut [u32]) -> Result<Verdict, Refusal>
+pub fn judge_with(table: Table, own: Guarded, cells: &mut [u32]) -> Result<Verdict<usize>, Refusal>
     ensures answer { result ≡ beside_answer (guarded_line own) (line_of (items table)) (length cells.old) }
     ensures cells { cells.new ≡ beside_cells (guarded_line own) (line_of (items table)) cells.old }
     ensures judged { IfOk result (λ v. Judged (joined (guarded_line own) (line_of (items table))) v cells.new) }

@@ -90,7 +90,7 @@ mod tests {
         assert_eq!(rt; bench.judge(), Verdict::Fits);
         assert_eq!(rt; bench.bound(7, 0)?, 2);
         bench.put(8, 1, 9, 100, 9)?;
-        assert_eq!(rt; bench.verdict(), Verdict::None);
+        assert_eq!(rt; bench.verdict(), None);
         assert_eq!(rt; bench.bound(7, 0)?, 0);
         assert_eq!(rt; bench.judge(), Verdict::Over { task: 8, mode: 0 });
         Ok(())

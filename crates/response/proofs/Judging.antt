@@ -146,7 +146,7 @@ module _ (m : Meaning) where
   pub bounds_fit : ((p i : ℕ) → Mode m p i → Bounded m p i) → verdict_of m ≡ Fits
   bounds_fit all = go (verdict_of m) refl
     where
-      go : (v : Verdict) → verdict_of m ≡ v → v ≡ Fits
+      go : (v : Verdict ℕ) → verdict_of m ≡ v → v ≡ Fits
       go Fits e = refl
       go (Over p i) e = let o = over_line p i e in absurd (bounded_not m p i (all p i o.there) o.none)
 
@@ -154,7 +154,7 @@ module _ (m : Meaning) where
   pub line_over : (p i : ℕ) → OverLine m p i → verdict_of m ≡ Over p i
   line_over p i l = go (verdict_of m) refl
     where
-      go : (v : Verdict) → verdict_of m ≡ v → v ≡ Over p i
+      go : (v : Verdict ℕ) → verdict_of m ≡ v → v ≡ Over p i
       go Fits e = absurd (bounded_not m p i (fits_bounds e p i l.there) l.none)
       go (Over q j) e = same q j (over_line q j e)
         where

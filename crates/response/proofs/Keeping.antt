@@ -282,6 +282,6 @@ module _ (m : Meaning) (laws : Lawful m) (fits : AllBounds m) where
 pub never_late : (m : Meaning) → Lawful m → verdict_of m ≡ Fits → NeverLate m
 never_late m laws e = safe_calls m laws (λ p i lp li. let b = fits_bounds m e p i (record { place = lp; mode = li }) in (b.0, bound_found m p i b.0 b.1))
 
-pub safe_verdict : (m : Meaning) → Lawful m → (o : Option (ℕ × ℕ)) (v : Verdict) → o ≡ first_over m → v ≡ as_verdict o → v ≡ Fits → NeverLate m
+pub safe_verdict : (m : Meaning) → Lawful m → (o : Option (ℕ × ℕ)) (v : Verdict ℕ) → o ≡ first_over m → v ≡ as_verdict o → v ≡ Fits → NeverLate m
 unfolding verdict_of
 safe_verdict m laws o v over names fit = never_late m laws (ap as_verdict (sym over) ∙ sym names ∙ fit)

@@ -198,7 +198,7 @@ passes_before q j p i t = elim (cases_lt q p) [
 ]
 
 -- The verdict and the cells that go with it are a judgement in the words of the test.
-pub judged : (m : Meaning) → Lawful m → (rest : List ℕ) (v : Verdict) → verdict_of m ≡ v → Judged m v (bound_cells m ++ rest)
+pub judged : (m : Meaning) → Lawful m → (rest : List ℕ) (v : Verdict ℕ) → verdict_of m ≡ v → Judged m v (bound_cells m ++ rest)
 judged m laws rest Fits e =
     holds_shown m laws rest (λ _ _. Unit {0}) (λ p i x. ap (λ v. passes v p i) e) (λ p i t. tt) (λ p i h x. fits_bounds m e p i h)
 judged m laws rest (Over p i) e =
@@ -217,10 +217,10 @@ cells_done m laws s is room long (Some x) e shows =
     cells_over m s is room long x.0 x.1 (omega (arith, laws.few, o.there.place)) (omega (arith, o.there.mode, modes_at m laws x.0)) e shows
 
 -- What the judge answers and leaves.
-abbrev pub Done : Meaning → List ℕ → List ℕ → Verdict → Type 0
+abbrev pub Done : Meaning → List ℕ → List ℕ → Verdict ℕ → Type 0
 Done m s is v = (Ok v ≡ judge_answer m (length s)) × (is ≡ judged_cells m s) × Judged m v is
 
-pub done : (m : Meaning) → Lawful m → (s start is : List ℕ) (v : Verdict) → 256 ≤ length s → length is ≡ length s → start ≡ cleared_to 256 s
+pub done : (m : Meaning) → Lawful m → (s start is : List ℕ) (v : Verdict ℕ) → 256 ≤ length s → length is ≡ length s → start ≡ cleared_to 256 s
     → (o : Option (ℕ × ℕ)) → o ≡ first_over m → v ≡ as_verdict o → Shows m 0 (reached_cell m) start is → Done m s is v
 unfolding verdict_of
 done m laws s start is v room long clear o over names shows =

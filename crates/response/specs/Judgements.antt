@@ -27,6 +27,6 @@ pub record Stops (m : Meaning) (p i : ℕ) (cells : List ℕ) : Type 0 where
 
 -- A verdict with the cells that go with it: the line fits and every mode's bound is shown, or it is over at the
 -- first mode that has none and the bounds before that are shown.
-abbrev pub Judged : Meaning → Verdict → List ℕ → Type 0
+abbrev pub Judged : Meaning → Verdict ℕ → List ℕ → Type 0
 Judged m Fits cells = Holds m (λ _ _. Unit {0}) cells
 Judged m (Over p i) cells = Stops m p i cells

@@ -4,3 +4,4 @@ pub mod Verdicts
 pub mod Judgements
 pub mod Rows
 pub mod Easing
+pub mod Words

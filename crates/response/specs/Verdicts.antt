@@ -38,16 +38,16 @@ unfoldable pub first_over : Meaning → Option (ℕ × ℕ)
 first_over m = over_from m m.count 0
 
 -- The verdict that such a place and mode mean, or that there is none.
-abbrev pub as_verdict : Option (ℕ × ℕ) → Verdict
+abbrev pub as_verdict : Option (ℕ × ℕ) → Verdict ℕ
 as_verdict None = Fits
 as_verdict (Some x) = Over x.0 x.1
 
 -- The verdict on a line: over at the first place and mode without a bound, or it fits.
-unfoldable pub verdict_of : Meaning → Verdict
+unfoldable pub verdict_of : Meaning → Verdict ℕ
 verdict_of m = as_verdict (first_over m)
 
 -- Whether mode i of place p comes before the mode that the verdict names; where it names none, all do.
-abbrev pub passes : Verdict → ℕ → ℕ → Bool
+abbrev pub passes : Verdict ℕ → ℕ → ℕ → Bool
 passes Fits p i = true
 passes (Over q j) p i = nat_lt p q || (p == q && nat_lt i j)
 
@@ -61,7 +61,7 @@ unfoldable pub bound_cells : Meaning → List ℕ
 bound_cells m = map (λ n. shown_bound m (n / 16) (n % 16)) (range_with_len 0 256)
 
 -- What the judge answers over that many cells.
-abbrev pub judge_answer : Meaning → ℕ → Result Verdict Refusal
+abbrev pub judge_answer : Meaning → ℕ → Result (Verdict ℕ) Refusal
 judge_answer m cells = cond (nat_lt cells 256) (Err TooShort) (Ok (verdict_of m))
 
 -- What the judge leaves of the cells: too few stay as they are; else the first 256 show the bounds, and later ones stay.

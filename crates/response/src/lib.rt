@@ -10,14 +10,16 @@
 //! bounds, and fits if that one does.
 #![tactic(auto)]
 
-ghost use Rattle.std.specs.Prelude.{◌≡◌, length, IfOk, OnOk};
+ghost use Rattle.std.specs.Prelude.{◌≡◌, length, IfOk, OnOk, Some};
 ghost use Rattle.response.specs.Verdicts.{as_verdict, judge_answer, judged_cells};
 ghost use Rattle.response.specs.Judgements.{Judged};
 ghost use Rattle.response.specs.Easing.{EasesBelow};
 ghost use Rattle.response.specs.Safety.{NeverLate};
+ghost use Rattle.response.specs.Words.{verdict_words};
 
 use line::Line;
 use line::refusal::Refusal;
+use std::fmt;
 
 mod cells;
 mod places;
@@ -27,26 +29,38 @@ mod search;
 /// The cells that the judge shows bounds in: one for each place and mode.
 pub const CELLS: usize = 256;
 
-/// What the test says of a line.
+/// What the test says of tasks, each named by a `Task`: its place, or a number of its own.
 #[derive(Clone, Copy, PartialEq, Eq, Debug)]
-pub enum Verdict {
+pub enum Verdict<Task> {
     /// Every mode has a bound.
     Fits,
-    /// The first place, and there the first mode, without a bound.
+    /// The first task, by place, and its first mode that have no bound.
     Over {
-        /// The place of the task.
-        place: usize,
+        /// The task.
+        task: Task,
         /// The mode of that task.
         mode: usize,
     },
 }
 
+/// The words of a verdict on tasks that are named by their numbers.
+impl fmt::Display for Verdict<u32> {
+    ghost output = { λ v. Some (verdict_words v) };
+
+    fn fmt<W: fmt::Write>(&self, f: &mut fmt::Formatter<W>) -> fmt::Result {
+        match self {
+            Verdict::Fits => f.write_str("fits"),
+            Verdict::Over { task, mode } => write!(f, "over {task} {mode}"),
+        }
+    }
+}
+
 /// The verdict, given the first place and mode without a bound.
-fn verdict_at(over: Option<(usize, usize)>) -> Verdict
+fn verdict_at(over: Option<(usize, usize)>) -> Verdict<usize>
     ensures { result ≡ as_verdict over }
 {
     match over {
-        Some((place, mode)) => Verdict::Over { place, mode },
+        Some((task, mode)) => Verdict::Over { task, mode },
         None => Verdict::Fits,
     }
 }
@@ -55,7 +69,7 @@ fn verdict_at(over: Option<(usize, usize)>) -> Verdict
 ///
 /// Of the first 256 cells, cell place × 16 + mode gets the mode's bound, and every other one 0;
 /// later cells stay. Fewer cells are refused, and then nothing changes.
-pub fn judge<L: Line>(line: &L, cells: &mut [u32]) -> Result<Verdict, Refusal>
+pub fn judge<L: Line>(line: &L, cells: &mut [u32]) -> Result<Verdict<usize>, Refusal>
     requires { L.lawful line.now }
     ensures answer { result ≡ judge_answer (L.meaning line.now) (length cells.old) }
     ensures cells { cells.new ≡ judged_cells (L.meaning line.now) cells.old }

@@ -5,7 +5,6 @@ ghost use Rattle.table.specs.Tables.{items};
 ghost use Rattle.bench.specs.State.{state, fresh, edited, put_answer, after_put, install_answer, after_install};
 
 use super::Bench;
-use crate::verdict::Verdict;
 use editor::editor::Editor;
 use line::refusal::Refusal;
 use response::CELLS;
@@ -21,7 +20,7 @@ impl Bench {
         Ok(Bench {
             id,
             editor,
-            verdict: Verdict::None,
+            verdict: None,
             bounds: [0; CELLS],
         })
     }
@@ -37,7 +36,7 @@ impl Bench {
     pub(crate) fn forget_verdict(&mut self)
         ensures { state self.new ≡ edited (state self.old) (state self.old).desk }
     {
-        self.verdict = Verdict::None;
+        self.verdict = None;
         self.bounds = [0; CELLS];
     }
 

@@ -5,16 +5,16 @@ ghost use Rattle.bench.specs.State.{state, on_numbers, judgement, after_judge};
 
 use super::Bench;
 use crate::verdict::Verdict;
-use response::{Verdict as Found, judge};
+use response::judge;
 use table::table::Table;
 
 /// A verdict on places as one on the numbers of the tasks there.
-fn named(table: &Table, found: Found) -> Verdict
+fn named(table: &Table, found: response::Verdict<usize>) -> Verdict
     ensures { result ≡ on_numbers (items table.now) found }
 {
     match found {
-        Found::Fits => Verdict::Fits,
-        Found::Over { place, mode } => Verdict::Over {
+        response::Verdict::Fits => Verdict::Fits,
+        response::Verdict::Over { task: place, mode } => Verdict::Over {
             task: table.number_at(place),
             mode,
         },
@@ -30,8 +30,9 @@ impl Bench {
         let table = self.editor.table();
         match judge(table, &mut self.bounds) {
             Ok(found) => {
-                self.verdict = named(table, found);
-                self.verdict
+                let verdict = named(table, found);
+                self.verdict = Some(verdict);
+                verdict
             }
             Err(_) => unreachable(),
         }

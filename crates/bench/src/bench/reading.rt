@@ -19,8 +19,8 @@ impl Bench {
         self.editor.table()
     }
 
-    /// The verdict that stands.
-    pub fn verdict(&self) -> Verdict
+    /// The verdict that stands, if the table has been judged since it last changed.
+    pub fn verdict(&self) -> Option<Verdict>
         ensures { result ≡ (state self.now).verdict }
     {
         self.verdict
