@@ -13,7 +13,7 @@ use Rattle.cases.specs.declared.guarded.Guarded.{Guarded}
 
 -- A guarded task as a line of one task.
 abbrev pub guarded_line : Guarded → Meaning
-guarded_line s = sole (guarded_task s.cost s.period s.deadline)
+guarded_line s = sole (guarded_task s.task.cost s.task.period s.task.deadline)
 
 -- The verdict where a check passes, else the check's refusal.
 abbrev pub verdict_after : Answer → Result (Verdict ℕ) Refusal → Result (Verdict ℕ) Refusal

@@ -12,85 +12,60 @@ ghost use Rattle.std.proofs.lemmas.Bool.Decides.{nat_tests};
 use line::Line;
 use line::limits::WINDOW;
 use line::refusal::Refusal;
-use sporadic::check_sporadic;
+use sporadic::Sporadic;
 
-/// A task of one mode: each job runs at most `cost` ticks, is due `deadline` ticks after its
-/// release, and comes at least `period` ticks after the one before. For each window it counts one
-/// job more than there are whole periods.
+/// A sporadic task that for each window counts one job more than there are whole periods.
 #[derive(Clone, Copy)]
 pub struct Guarded {
-    cost: u32,
-    period: u32,
-    deadline: u32,
-    ghost some: { 1 ≤ cost },
-    ghost fits: { cost ≤ deadline },
-    ghost near: { deadline ≤ 1000 },
-    ghost first: { deadline ≤ period },
-    ghost often: { period ≤ 100000 },
+    task: Sporadic,
 }
 
 impl Guarded {
     /// A task of these numbers, or why there is none.
     pub fn new(cost: u32, period: u32, deadline: u32) -> Result<Guarded, Refusal>
-        ensures { MadeBy (sporadic_answer cost period deadline) (λ s. (s.cost ≡ cost) × (s.period ≡ period) × (s.deadline ≡ deadline)) result }
+        ensures { MadeBy (sporadic_answer cost period deadline) (λ s. (s.task.cost ≡ cost) × (s.task.period ≡ period) × (s.task.deadline ≡ deadline)) result }
     {
-        check_sporadic(cost, period, deadline)?;
-        Ok(Guarded {
-            cost,
-            period,
-            deadline,
-        })
+        let task = Sporadic::new(cost, period, deadline)?;
+        Ok(Guarded { task })
     }
 
     /// The work that it counts with in a window.
     fn counted(&self, window: u32) -> u32
         requires { window ≤ 1000 }
-        ensures { result ≡ guarded_most self.now.cost self.now.period window }
+        ensures { result ≡ guarded_most self.now.task.cost self.now.task.period window }
     {
         if window == 0 {
             return 0;
         }
-        self.cost * (window / self.period + 1)
+        self.task.cost() * (window / self.task.period() + 1)
     }
 }
 
 impl Line for Guarded {
-    ghost meaning = { λ s. sole (guarded_task s.cost s.period s.deadline) };
+    ghost meaning = { λ s. sole (guarded_task s.task.cost s.task.period s.task.deadline) };
 
     ghost lawful = { λ _. Unit {0} };
 
-    ghost keeps = { λ s h. sole_lawful _ (counted_laws s.cost s.period s.deadline (guarded_most s.cost s.period) s.some s.fits s.near s.first s.often (λ w some. Prim.grind (arith, nat_tests)) (λ w. Prim.grind (arith, nat_tests))) };
+    ghost keeps = { λ s h. sole_lawful _ (counted_laws s.task.cost s.task.period s.task.deadline (guarded_most s.task.cost s.task.period) s.task.some s.task.fits s.task.near s.task.first s.task.often (λ w some. Prim.grind (arith, nat_tests)) (λ w. Prim.grind (arith, nat_tests))) };
 
     fn count(&self) -> usize {
-        1
+        self.task.count()
     }
 
     fn modes(&self, place: usize) -> usize {
-        if place == 0 { 1 } else { 0 }
+        self.task.modes(place)
     }
 
     fn cost(&self, place: usize, mode: usize) -> u32 {
-        if place == 0 && mode == 0 {
-            self.cost
-        } else {
-            0
-        }
+        <Sporadic as Line>::cost(&self.task, place, mode)
     }
 
     fn deadline(&self, place: usize, mode: usize) -> u32 {
-        if place == 0 && mode == 0 {
-            self.deadline
-        } else {
-            0
-        }
+        <Sporadic as Line>::deadline(&self.task, place, mode)
     }
 
     fn gap(&self, place: usize, from: usize, to: usize) -> Option<u32> {
-        if place == 0 && from == 0 && to == 0 {
-            Some(self.period)
-        } else {
-            None
-        }
+        self.task.gap(place, from, to)
     }
 
     fn most(&self, place: usize, window: u32) -> u32 {
