@@ -9,7 +9,7 @@ use Rattle.forms.specs.declared.keyword.Keyword.{Keyword}
 use Rattle.forms.specs.declared.keyword.Keyword.TheVariants.{Sporadic as sporadic, Angular as angular, Mode as mode, Link as link, End as end}
 use Rattle.forms.specs.Format.{keyword, numbers, field, fields, spell, Small, Sound}
 use Rattle.forms.specs.Numbers.{number_of}
-use Rattle.forms.specs.Keywords.{reads_from, is_word, key_of}
+use Rattle.forms.specs.Keywords.{reads_from, is_word, key_of, word_of}
 use Rattle.forms.specs.Places.{At, rest_of, forward, next_line, next_is}
 use Rattle.forms.specs.Words.{word_len, by_number, word_at, token_at, past_word}
 use Rattle.forms.specs.Lines.{Step, done, failed, after, number_from, space_of, line_end_of, number_at, field_of, Makes, fields_of, body_of, by_key, form_from, form_of}
@@ -90,13 +90,6 @@ fields_only (suc n) make s t f e =
       small = (h.1, r.small);
     }
 
-abbrev key_text : Keyword → List ℕ
-key_text sporadic = codes "sporadic"
-key_text angular = codes "angular"
-key_text mode = codes "mode"
-key_text link = codes "link"
-key_text end = codes "end"
-
 -- After the key stood the rest of f's spelling.
 pub record Follows (key : List ℕ) (s t : At) (f : Form) : Type 0 where
   pub bytes : rest_of s ≡ fields (numbers f) ++ (10 ∷ rest_of t)
@@ -113,12 +106,12 @@ follows n make key lists keys s t f e =
       keyed = keys r.values ∙ ap keyword r.makes;
     }
 
-body_only : (k : Keyword) (s t : At) (f : Form) → body_of k s ≡ done f t → Follows (key_text k) s t f
-body_only sporadic s t f e = follows 4 Sporadic (key_text sporadic) (λ _. refl) (λ _. refl) s t f e
-body_only angular s t f e = follows 1 Angular (key_text angular) (λ _. refl) (λ _. refl) s t f e
-body_only mode s t f e = follows 2 Mode (key_text mode) (λ _. refl) (λ _. refl) s t f e
-body_only link s t f e = follows 3 Link (key_text link) (λ _. refl) (λ _. refl) s t f e
-body_only end s t f e = follows 2 End (key_text end) (λ _. refl) (λ _. refl) s t f e
+body_only : (k : Keyword) (s t : At) (f : Form) → body_of k s ≡ done f t → Follows (word_of k) s t f
+body_only sporadic s t f e = follows 4 Sporadic (word_of sporadic) (λ _. refl) (λ _. refl) s t f e
+body_only angular s t f e = follows 1 Angular (word_of angular) (λ _. refl) (λ _. refl) s t f e
+body_only mode s t f e = follows 2 Mode (word_of mode) (λ _. refl) (λ _. refl) s t f e
+body_only link s t f e = follows 3 Link (word_of link) (λ _. refl) (λ _. refl) s t f e
+body_only end s t f e = follows 2 End (word_of end) (λ _. refl) (λ _. refl) s t f e
 
 reads_at : (bs : List ℕ) (i : ℕ) (w : List ℕ) → reads_from bs i w ≡ true → HasBytesAt bs i w
 reads_at bs i [] e = tt
@@ -127,14 +120,14 @@ reads_at bs i (c ∷ cs) e = let p = and_parts _ _ e in (eqb-true _ _ p.0, reads
 is_word_only : (bs w : List ℕ) → is_word bs w ≡ true → bs ≡ w
 is_word_only bs w e = let p = and_parts _ _ e in text_from_reads bs w (eqb-true _ _ p.0) (reads_at bs 0 w p.1)
 
-by_test : (bs w : List ℕ) (k j : Keyword) (o : Option Keyword) → w ≡ key_text j → (o ≡ Some k → bs ≡ key_text k) → cond (is_word bs w) (Some j) o ≡ Some k → bs ≡ key_text k
+by_test : (bs w : List ℕ) (k j : Keyword) (o : Option Keyword) → w ≡ word_of j → (o ≡ Some k → bs ≡ word_of k) → cond (is_word bs w) (Some j) o ≡ Some k → bs ≡ word_of k
 by_test bs w k j o same other e = go (is_word bs w) refl e
   where
-    go : (b : Bool) → is_word bs w ≡ b → cond b (Some j) o ≡ Some k → bs ≡ key_text k
-    go true h g = let jk : j ≡ k = grind arith in is_word_only bs w h ∙ same ∙ ap key_text jk
+    go : (b : Bool) → is_word bs w ≡ b → cond b (Some j) o ≡ Some k → bs ≡ word_of k
+    go true h g = let jk : j ≡ k = grind arith in is_word_only bs w h ∙ same ∙ ap word_of jk
     go false h g = other g
 
-key_only : (bs : List ℕ) (k : Keyword) → key_of bs ≡ Some k → bs ≡ key_text k
+key_only : (bs : List ℕ) (k : Keyword) → key_of bs ≡ Some k → bs ≡ word_of k
 key_only bs k =
     by_test bs (codes "sporadic") k sporadic _ refl
     (by_test bs (codes "angular") k angular _ refl

@@ -1,9 +1,11 @@
 -- What is read is what the format says, and the format leaves no choice. Assumes nothing.
-use Rattle.std.proofs.Common.{◌≡◌, ℕ, ◌<◌, List, ◌++◌, length, Ok, Err, Result, sym, refl, ap, ◌∙◌, arith, MatchResult}
+use Rattle.std.proofs.Common.{◌≡◌, ℕ, ◌<◌, List, ◌++◌, length, Some, None, Option, Ok, Err, Result, sym, refl, ap, ◌∙◌, arith, MatchResult}
 use Rattle.std.proofs.lemmas.List.{append_cancel_left}
 use Rattle.forms.specs.declared.form.Form.{Form}
 use Rattle.forms.specs.declared.form.NoForm.{NoForm}
+use Rattle.forms.specs.declared.keyword.Keyword.{Keyword}
 use Rattle.forms.specs.Format.{spell, Sound}
+use Rattle.forms.specs.Keywords.{or_formless}
 use Rattle.forms.specs.Places.{At, start}
 use Rattle.forms.specs.Lines.{out, form_of}
 use Rattle.forms.specs.Reads.{Spelled, Formless}
@@ -27,3 +29,12 @@ spell_one f g xs ys hf hg e =
 -- A spelling has a byte.
 pub spell_some : (f : Form) → 0 < length (spell f)
 spell_some f = omega (arith, spell_long f)
+
+-- A keyword was read where the bytes spell one, and else there is none.
+pub key_found : (o : Option Keyword) (k : Keyword) → Ok k ≡ or_formless o → o ≡ Some k
+key_found None k e = absurd (grind arith)
+key_found (Some j) k e = let same : k ≡ j = cc in ap Some (sym same)
+
+pub key_lacking : (o : Option Keyword) (n : NoForm) → Err n ≡ or_formless o → o ≡ None
+key_lacking None n e = refl
+key_lacking (Some j) n e = absurd (grind arith)

@@ -1,5 +1,6 @@
 -- The words that begin a line. Assumes nothing.
-use Rattle.std.specs.Prelude.{ℕ, suc, Bool, true, cond, ◌&&◌, List, [], ◌∷◌, length, Some, None, codes, Option, ◌==◌, slice_index}
+use Rattle.std.specs.Prelude.{ℕ, suc, Bool, true, cond, ◌&&◌, List, [], ◌∷◌, length, Some, None, Ok, Err, codes, Option, Result, ◌==◌, slice_index}
+use Rattle.forms.specs.declared.form.NoForm.{NoForm}
 use Rattle.forms.specs.declared.keyword.Keyword.{Keyword}
 use Rattle.forms.specs.declared.keyword.Keyword.TheVariants.{Sporadic, Angular, Mode, Link, End}
 
@@ -20,3 +21,16 @@ key_of bs =
     (cond (is_word bs (codes "mode")) (Some Mode)
     (cond (is_word bs (codes "link")) (Some Link)
     (cond (is_word bs (codes "end")) (Some End) None))))
+
+-- A keyword that is there, or that no form begins so.
+abbrev pub or_formless : Option Keyword → Result Keyword NoForm
+or_formless None = Err (record {})
+or_formless (Some k) = Ok k
+
+-- The word of a keyword.
+abbrev pub word_of : Keyword → List ℕ
+word_of Sporadic = codes "sporadic"
+word_of Angular = codes "angular"
+word_of Mode = codes "mode"
+word_of Link = codes "link"
+word_of End = codes "end"

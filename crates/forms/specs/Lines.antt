@@ -24,9 +24,13 @@ abbrev pub after : {A B : Type 0} → Step A → (A → At → Step B) → Step 
 after (done x s) k = k x s
 after (failed s) k = failed s
 
+-- One byte b.
+abbrev pub byte_of : ℕ → At → Step (Unit {0})
+byte_of b s = cond (next_is b s) (done tt (forward 1 s)) (failed s)
+
 -- One space.
 abbrev pub space_of : At → Step (Unit {0})
-space_of s = cond (next_is 32 s) (done tt (forward 1 s)) (failed s)
+space_of s = byte_of 32 s
 
 -- The line feed that ends a line.
 abbrev pub line_end_of : At → Step (Unit {0})

@@ -4,9 +4,13 @@ use Rattle.std.specs.List.{prefix_len}
 use Rattle.forms.specs.Numbers.{number_of}
 use Rattle.forms.specs.Places.{At, rest_of, forward}
 
+-- A separator: a space or a line feed.
+abbrev pub separates : ℕ → Bool
+separates b = b == 32 || b == 10
+
 -- Neither a space nor a line feed.
 abbrev pub in_word : ℕ → Bool
-in_word b = not (b == 32 || b == 10)
+in_word b = not (separates b)
 
 -- How many bytes stand in front of the first separator.
 unfoldable pub word_len : List ℕ → ℕ

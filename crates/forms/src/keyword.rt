@@ -1,6 +1,8 @@
 //! The words that begin a line.
 ghost use Rattle.std.specs.Prelude.{◌≡◌};
-ghost use Rattle.forms.specs.Keywords.{key_of};
+ghost use Rattle.forms.specs.Keywords.{key_of, or_formless, word_of};
+
+use crate::form::NoForm;
 
 /// The first word of each form.
 #[derive(Clone, Copy)]
@@ -12,16 +14,35 @@ pub enum Keyword {
     End,
 }
 
-/// The keyword that `word` spells, if it spells one.
-pub fn key_of(word: &[u8]) -> Option<Keyword>
-    ensures { result ≡ key_of word.now }
-{
-    match word {
-        b"sporadic" => Some(Keyword::Sporadic),
-        b"angular" => Some(Keyword::Angular),
-        b"mode" => Some(Keyword::Mode),
-        b"link" => Some(Keyword::Link),
-        b"end" => Some(Keyword::End),
-        _ => None,
+impl Keyword {
+    /// The word.
+    pub fn word(self) -> &'static [u8]
+        ensures { result.now ≡ word_of self }
+    {
+        match self {
+            Keyword::Sporadic => b"sporadic",
+            Keyword::Angular => b"angular",
+            Keyword::Mode => b"mode",
+            Keyword::Link => b"link",
+            Keyword::End => b"end",
+        }
+    }
+}
+
+/// The keyword that a word spells, if it spells one.
+impl<'a> TryFrom<&'a [u8]> for Keyword {
+    type Error = NoForm;
+
+    ghost try_from_gives = { λ word r. r ≡ or_formless (key_of word.now) };
+
+    fn try_from(word: &'a [u8]) -> Result<Keyword, NoForm> {
+        match word {
+            b"sporadic" => Ok(Keyword::Sporadic),
+            b"angular" => Ok(Keyword::Angular),
+            b"mode" => Ok(Keyword::Mode),
+            b"link" => Ok(Keyword::Link),
+            b"end" => Ok(Keyword::End),
+            _ => Err(NoForm),
+        }
     }
 }

@@ -6,7 +6,7 @@ ghost use Rattle.forms.specs.Reads.{Spelled, Formless, Reads};
 
 use super::{Reader, Token};
 use forms::form::{Form, NoForm};
-use forms::keyword::{Keyword, key_of};
+use forms::keyword::Keyword;
 
 impl Reader<'_> {
     /// The four numbers of a sporadic task.
@@ -85,10 +85,7 @@ impl Reader<'_> {
         ensures reads { MatchResult result (λ f. Spelled (at self.old) f (at self.new)) (λ _. Formless (at self.old)) }
     {
         match self.word() {
-            Token::Word { bytes, .. } => match key_of(bytes) {
-                Some(key) => self.body(key),
-                None => Err(NoForm),
-            },
+            Token::Word { bytes, .. } => self.body(Keyword::try_from(bytes)?),
             Token::Number { .. } => Err(NoForm),
         }
     }

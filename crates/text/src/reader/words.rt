@@ -1,9 +1,9 @@
 //! The words of a line, and what stands between them.
-ghost use Rattle.std.specs.Prelude.{◌≡◌, ◌≤◌, length};
+ghost use Rattle.std.specs.Prelude.{◌≡◌, ◌≤◌, length, position};
 ghost use Rattle.forms.specs.Places.{rest_of, next_is};
 ghost use Rattle.text.specs.Readers.{at, seen};
-ghost use Rattle.forms.specs.Words.{in_word, word_len, token_at, past_word};
-ghost use Rattle.forms.specs.Lines.{out, space_of, line_end_of, number_at, field_of};
+ghost use Rattle.forms.specs.Words.{separates, word_len, token_at, past_word};
+ghost use Rattle.forms.specs.Lines.{out, byte_of, line_end_of, number_at, field_of};
 
 use super::{Reader, Token};
 use forms::form::NoForm;
@@ -15,11 +15,12 @@ const SPACE: u8 = b' ';
 /// What ends a line.
 const LINE_FEED: u8 = b'\n';
 
-/// Whether a byte is part of a word, and not a separator.
-fn in_word(byte: u8) -> bool
-    ensures { result ≡ in_word byte }
+/// Where the first separator stands, if there is one.
+fn first_separator(text: &[u8]) -> Option<usize>
+    ensures { result ≡ position separates text.now }
 {
-    byte != SPACE && byte != LINE_FEED
+    text.iter()
+        .position(|byte| *byte == SPACE || *byte == LINE_FEED)
 }
 
 /// How many bytes stand in front of the first separator.
@@ -27,12 +28,7 @@ fn word_len(text: &[u8]) -> usize
     ensures is { result ≡ word_len text.now }
     ensures within { result ≤ length text.now }
 {
-    for (len, byte) in text.iter().enumerate() {
-        if !in_word(*byte) {
-            return len;
-        }
-    }
-    text.len()
+    first_separator(text).unwrap_or(text.len())
 }
 
 impl<'a> Reader<'a> {
@@ -47,7 +43,7 @@ impl<'a> Reader<'a> {
     fn next_is(&self, byte: u8) -> bool
         ensures { result ≡ next_is byte (at self.now) }
     {
-        self.pos < self.text.len() && self.text[self.pos] == byte
+        self.text.get(self.pos) == Some(&byte)
     }
 
     /// The word that begins here.
@@ -70,11 +66,11 @@ impl<'a> Reader<'a> {
         }
     }
 
-    /// One space.
-    fn space(&mut self) -> Result<(), NoForm>
-        ensures { out result (at self.new) ≡ space_of (at self.old) }
+    /// One byte.
+    fn skip(&mut self, byte: u8) -> Result<(), NoForm>
+        ensures { out result (at self.new) ≡ byte_of byte (at self.old) }
     {
-        if !self.next_is(SPACE) {
+        if !self.next_is(byte) {
             return Err(NoForm);
         }
         self.pos += 1;
@@ -85,10 +81,7 @@ impl<'a> Reader<'a> {
     pub(super) fn line_end(&mut self) -> Result<(), NoForm>
         ensures { out result (at self.new) ≡ line_end_of (at self.old) }
     {
-        if !self.next_is(LINE_FEED) {
-            return Err(NoForm);
-        }
-        self.pos += 1;
+        self.skip(LINE_FEED)?;
         self.line += 1;
         Ok(())
     }
@@ -107,7 +100,7 @@ impl<'a> Reader<'a> {
     pub(super) fn field(&mut self) -> Result<u32, NoForm>
         ensures { out result (at self.new) ≡ field_of (at self.old) }
     {
-        self.space()?;
+        self.skip(SPACE)?;
         self.number()
     }
 }
