@@ -2,8 +2,7 @@
 use Rattle.std.proofs.Common.{◌≡◌, ℕ, ◌+◌, ◌-◌, ◌/◌, ◌%◌, ◌^◌, ◌<◌, ◌≤◌, List, [], ◌∷◌, ◌++◌, length, get_or, take, drop, set, decimal, sym, refl, ap, ◌∙◌, add_assoc, add-one, arith}
 use Rattle.std.proofs.lemmas.Fmt.{decimal_digit, decimal_step}
 use Rattle.std.proofs.lemmas.List.{append_assoc, append-nil, take_more, length-append, length_push, length-take-le, length-drop, take-append-drop, take_at, drop_at, drop-drop, set_split}
-use Rattle.forms.specs.declared.form.Form.TheVariants.{Sporadic, Angular, Mode, Link, End}
-use Rattle.forms.specs.Format.{field, fields, spell}
+use Rattle.forms.specs.Format.{field, fields}
 use Rattle.writer.specs.Output.{overwrite, Wrote, line_of}
 
 pub len_one : (n : ℕ) → n < 10 → length (decimal n) ≡ 1
@@ -115,23 +114,3 @@ line_long key ns =
     let a = length-append key (fields ns ++ (10 ∷ [])) in
     let b = length_push (fields ns) 10 in
     omega arith
-
-pub sporadic_long : (n c t d : ℕ) → length (field n) + length (field c) + length (field t) + length (field d) + 9 ≡ length (spell (Sporadic n c t d))
-unfolding spell
-sporadic_long n c t d = simp length-append (omega arith)
-
-pub angular_long : (n : ℕ) → length (field n) + 8 ≡ length (spell (Angular n))
-unfolding spell
-angular_long n = simp length-append (omega arith)
-
-pub mode_long : (c d : ℕ) → length (field c) + length (field d) + 5 ≡ length (spell (Mode c d))
-unfolding spell
-mode_long c d = simp length-append (omega arith)
-
-pub link_long : (a b p : ℕ) → length (field a) + length (field b) + length (field p) + 5 ≡ length (spell (Link a b p))
-unfolding spell
-link_long a b p = simp length-append (omega arith)
-
-pub end_long : (k z : ℕ) → length (field k) + length (field z) + 4 ≡ length (spell (End k z))
-unfolding spell
-end_long k z = simp length-append (omega arith)

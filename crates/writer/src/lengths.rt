@@ -1,6 +1,7 @@
 //! How many bytes a line takes.
 ghost use Rattle.std.specs.Prelude.{◌≡◌, ◌≤◌, length, decimal};
-ghost use Rattle.forms.specs.Format.{keyword, field, spell};
+ghost use Rattle.forms.specs.Format.{field, fields, spell};
+ghost use Rattle.writer.specs.Output.{line_of};
 
 use forms::form::Form;
 
@@ -20,18 +21,27 @@ fn field_len(n: u32) -> usize
     digit_count(n) + 1
 }
 
-/// How many bytes the keyword of `form` takes.
-fn key_len(form: Form) -> usize
-    ensures is { result ≡ length (keyword form) }
-    ensures short { result ≤ 8 }
+/// How many bytes the numbers of a line take, each with its space.
+fn fields_len(numbers: &[u32]) -> usize
+    requires { length numbers.now ≤ 4 }
+    ensures is { result ≡ length (fields numbers.now) }
+    ensures short { result ≤ 44 }
 {
-    match form {
-        Form::Sporadic { .. } => 8,
-        Form::Angular { .. } => 7,
-        Form::Mode { .. } => 4,
-        Form::Link { .. } => 4,
-        Form::End { .. } => 3,
+    let mut len = 0;
+    for n in numbers {
+        len += field_len(*n);
     }
+    len
+}
+
+/// How many bytes a keyword, its numbers and the end of the line take.
+fn words_len(word: &[u8], numbers: &[u32]) -> usize
+    requires word { length word.now ≤ 8 }
+    requires numbers { length numbers.now ≤ 4 }
+    ensures is { result ≡ length (line_of word.now numbers.now) }
+    ensures short { result ≤ 53 }
+{
+    word.len() + fields_len(numbers) + 1
 }
 
 /// How many bytes the line of `form` takes: its keyword, its numbers and the line feed.
@@ -39,19 +49,5 @@ pub fn form_len(form: Form) -> usize
     ensures is { result ≡ length (spell form) }
     ensures short { result ≤ 53 }
 {
-    let bare = key_len(form) + 1;
-    match form {
-        Form::Sporadic {
-            number,
-            cost,
-            period,
-            deadline,
-        } => {
-            bare + field_len(number) + field_len(cost) + field_len(period) + field_len(deadline)
-        }
-        Form::Angular { number } => bare + field_len(number),
-        Form::Mode { cost, deadline } => bare + field_len(cost) + field_len(deadline),
-        Form::Link { from, to, gap } => bare + field_len(from) + field_len(to) + field_len(gap),
-        Form::End { count, place } => bare + field_len(count) + field_len(place),
-    }
+    words_len(form.keyword().word(), &form.numbers())
 }

@@ -1,5 +1,5 @@
 //! How a line is written.
-ghost use Rattle.std.specs.Prelude.{◌≡◌, ◌+◌, ◌%◌, ◌<◌, ◌≤◌, length, decimal, slice_set};
+ghost use Rattle.std.specs.Prelude.{◌≡◌, ◌+◌, ◌%◌, ◌<◌, ◌≤◌, [], ◌∷◌, length, decimal};
 ghost use Rattle.forms.specs.Format.{field, spell};
 ghost use Rattle.writer.specs.Output.{overwrite, line_of, Wrote, WriteDone};
 
@@ -39,23 +39,12 @@ fn write_bytes(out: &mut [u8], at: usize, bytes: &[u8]) -> usize
     end
 }
 
-/// Writes a space at `at`, and answers the place after it.
-fn write_space(out: &mut [u8], at: usize) -> usize
+/// Writes a byte at `at`, and answers the place after it.
+fn write_byte(out: &mut [u8], at: usize, byte: u8) -> usize
     requires { at < length out.old }
-    ensures end { result ≡ at + 1 }
-    ensures bytes { out.new ≡ slice_set out.old at 32 }
+    ensures { Wrote out.old at (byte ∷ []) out.new result }
 {
-    out[at] = b' ';
-    at + 1
-}
-
-/// Writes a line feed at `at`, and answers the place after it.
-fn end_line(out: &mut [u8], at: usize) -> usize
-    requires { at < length out.old }
-    ensures end { result ≡ at + 1 }
-    ensures bytes { out.new ≡ slice_set out.old at 10 }
-{
-    out[at] = b'\n';
+    out[at] = byte;
     at + 1
 }
 
@@ -64,12 +53,12 @@ fn write_field(out: &mut [u8], at: usize, n: u32) -> usize
     requires { at + length (field n) ≤ length out.old }
     ensures { Wrote out.old at (field n) out.new result }
 {
-    let place = write_space(out, at);
+    let place = write_byte(out, at, b' ');
     write_number(out, place, n)
 }
 
-/// Writes a keyword, its numbers and the end of the line from `at` on, and answers the place
-/// after them.
+/// Writes a word, its numbers and the end of the line from `at` on, and answers the place after
+/// them.
 fn write_words(out: &mut [u8], at: usize, key: &[u8], numbers: &[u32]) -> usize
     requires { at + length (line_of key.now numbers.now) ≤ length out.old }
     ensures { Wrote out.old at (line_of key.now numbers.now) out.new result }
@@ -78,7 +67,7 @@ fn write_words(out: &mut [u8], at: usize, key: &[u8], numbers: &[u32]) -> usize
     for n in numbers {
         place = write_field(out, place, *n);
     }
-    end_line(out, place)
+    write_byte(out, place, b'\n')
 }
 
 /// Writes the line of `form` where there is room for it, and answers the place after it.
@@ -86,18 +75,7 @@ fn put_form(out: &mut [u8], at: usize, form: Form) -> usize
     requires { at + length (spell form) ≤ length out.old }
     ensures { Wrote out.old at (spell form) out.new result }
 {
-    match form {
-        Form::Sporadic {
-            number,
-            cost,
-            period,
-            deadline,
-        } => { write_words(out, at, b"sporadic", &[number, cost, period, deadline]) }
-        Form::Angular { number } => write_words(out, at, b"angular", &[number]),
-        Form::Mode { cost, deadline } => write_words(out, at, b"mode", &[cost, deadline]),
-        Form::Link { from, to, gap } => write_words(out, at, b"link", &[from, to, gap]),
-        Form::End { count, place } => write_words(out, at, b"end", &[count, place]),
-    }
+    write_words(out, at, form.keyword().word(), &form.numbers())
 }
 
 /// Writes the line of `form` from `at` on, and answers the place after it. Where there is no room

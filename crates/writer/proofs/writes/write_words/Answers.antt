@@ -2,7 +2,7 @@ use Rattle.std.proofs.Common.{sym, subst, arith}
 use Rattle.std.proofs.lemmas.List.{take_all}
 use Rattle.forms.specs.Format.{fields}
 use Rattle.writer.specs.Output.{Wrote}
-use Rattle.writer.proofs.Writing.{wrote_more, wrote_none, wrote_one, fields_more, fields_room, line_long}
+use Rattle.writer.proofs.Writing.{wrote_more, wrote_none, fields_more, fields_room, line_long}
 use Rattle.writer.proofs.writes.write_words.Goals as goal
 use Rattle.writer.proofs.writes.write_words.Goals.{After-loop-n}
 
@@ -30,15 +30,14 @@ all_fields c =
     (take_all c.loop-n.n-index c.args.numbers.now c.loop-n-test.false)
     c.loop-n.invariant
 
-pub end_line-requires : goal.end_line-requires
-end_line-requires c =
+pub write_byte-requires : goal.write_byte-requires
+write_byte-requires c =
     let a = line_long c.args.key.now c.args.numbers.now in
-    omega (arith, (all_fields (goal.at.end_line-requires c).After-loop-n).ends)
+    omega (arith, (all_fields (goal.at.write_byte-requires c).After-loop-n).ends)
 
 pub returns : goal.returns
 returns c =
     let a = line_long c.args.key.now c.args.numbers.now in
-    let all = all_fields (goal.at.returns c).After-loop-n in
     wrote_more
     (record { fits = omega arith; ends = c.write_bytes-place.ensures.end; bytes = c.write_bytes-place.ensures.bytes })
-    (wrote_more all (wrote_one c.loop-n.out c.end_line.new.out c.loop-n.place 10 c.end_line.result (omega (arith, all.ends)) c.end_line.ensures.end c.end_line.ensures.bytes))
+    (wrote_more (all_fields (goal.at.returns c).After-loop-n) c.write_byte.ensures)
