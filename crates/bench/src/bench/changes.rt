@@ -8,30 +8,13 @@ use line::change::Change;
 use line::refusal::Refusal;
 
 impl Bench {
-    /// The edit that takes a task out of the table.
-    fn take_task(&mut self, number: u32) -> Result<(), Refusal>
-        ensures answer { result ≡ take_answer (state self.old) number }
-        ensures after { state self.new ≡ after_take (state self.old) number }
-    {
-        self.editor.take(number)?;
-        self.forget_verdict();
-        Ok(())
-    }
-
     /// Takes a task out of the table; lower tasks move up.
     pub fn take(&mut self, number: u32) -> Result<(), Refusal>
         ensures answer { result ≡ take_answer (state self.old) number }
         ensures after { state self.new ≡ after_take (state self.old) number }
         ensures eases { OnOk result (Eases (state self.new).desk.tasks (state self.old).desk.tasks) }
     {
-        self.take_task(number)
-    }
-
-    /// The edit that changes a task.
-    fn change_task(&mut self, number: u32, change: Change, sheet: &mut [u32]) -> Result<(), Refusal>
-        ensures { ChangeDone (state self.old) number change sheet.old result (state self.new) sheet.new }
-    {
-        self.editor.change(number, change, sheet)?;
+        self.editor.take(number)?;
         self.forget_verdict();
         Ok(())
     }
@@ -41,7 +24,9 @@ impl Bench {
         ensures done { ChangeDone (state self.old) number change sheet.old result (state self.new) sheet.new }
         ensures eases { OnOk result (Eases (state self.new).desk.tasks (state self.old).desk.tasks) }
     {
-        self.change_task(number, change, sheet)
+        self.editor.change(number, change, sheet)?;
+        self.forget_verdict();
+        Ok(())
     }
 
     /// Gives a mode of a task a smaller cost.
