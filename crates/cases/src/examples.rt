@@ -5,16 +5,10 @@ ghost use Rattle.cases.specs.Examples.{examples as listed, Worked};
 /// How many worked examples there are.
 pub const EXAMPLES: usize = 13;
 
-/// In every worked example the definitions give what is wanted.
-fn work_examples()
-    ensures { Worked }
-{}
-
 /// In every worked example the definitions give what is wanted; answers how many there are.
 pub fn worked_examples() -> usize
     ensures worked { Worked }
     ensures all { result ≡ length listed }
 {
-    work_examples();
     EXAMPLES
 }
