@@ -9,10 +9,30 @@ use Rattle.table.specs.Numbers.{task_numbers}
 use Rattle.table.specs.Items.{Item, Make, sporadic, angular, is_angular, angulars, place_of, apart}
 use Rattle.forms.specs.declared.form.Form.TheVariants as form
 use Rattle.forms.specs.Format.{field, spell, Sound}
-use Rattle.writer.proofs.Writing.{sporadic_long, angular_long, mode_long, link_long, end_long}
 use Rattle.save.specs.Texts.{mode_form, links_from, make_forms, item_forms, forms_of, spelled, last_place, trailer_of, text_of}
 use Rattle.save.proofs.Rights.{RightMake, Rights, Together, RightFrom, cells_right, mode_limits, gap_limits, number_limits}
 use Rattle.save.proofs.Spelling.{spelled_long, last_within, text_long}
+
+-- How long each form is.
+sporadic_long : (n c t d : ℕ) → length (field n) + length (field c) + length (field t) + length (field d) + 9 ≡ length (spell (form.Sporadic n c t d))
+unfolding spell
+sporadic_long n c t d = simp length-append (omega arith)
+
+angular_long : (n : ℕ) → length (field n) + 8 ≡ length (spell (form.Angular n))
+unfolding spell
+angular_long n = simp length-append (omega arith)
+
+mode_long : (c d : ℕ) → length (field c) + length (field d) + 5 ≡ length (spell (form.Mode c d))
+unfolding spell
+mode_long c d = simp length-append (omega arith)
+
+link_long : (a b p : ℕ) → length (field a) + length (field b) + length (field p) + 5 ≡ length (spell (form.Link a b p))
+unfolding spell
+link_long a b p = simp length-append (omega arith)
+
+end_long : (k z : ℕ) → length (field k) + length (field z) + 4 ≡ length (spell (form.End k z))
+unfolding spell
+end_long k z = simp length-append (omega arith)
 
 -- A space and at most six digits.
 field_short : (n : ℕ) → n < 1000000 → length (field n) ≤ 7

@@ -33,14 +33,10 @@ fn first_line(table: &Table, place: usize) -> Form
 fn mode_line(table: &Table, place: usize, mode: usize) -> Option<Form>
     ensures { result ≡ mode_in (task_at (line_of (items table.now)) place) mode }
 {
-    if mode < table.modes(place) {
-        Some(Form::Mode {
-            cost: table.cost(place, mode),
-            deadline: table.deadline(place, mode),
-        })
-    } else {
-        None
-    }
+    (mode < table.modes(place)).then(|| Form::Mode {
+        cost: table.cost(place, mode),
+        deadline: table.deadline(place, mode),
+    })
 }
 
 /// The line of a pair of modes of the task at a place, if they are linked.
@@ -49,14 +45,11 @@ fn link_line(table: &Table, place: usize, pair: usize) -> Option<Form>
     ensures { result ≡ link_in (task_at (line_of (items table.now)) place) pair }
 {
     let (from, to) = (pair / MODES, pair % MODES);
-    match table.gap(place, from, to) {
-        Some(gap) => Some(Form::Link {
-            from: from as u32,
-            to: to as u32,
-            gap,
-        }),
-        None => None,
-    }
+    table.gap(place, from, to).map(|gap| Form::Link {
+        from: from as u32,
+        to: to as u32,
+        gap,
+    })
 }
 
 /// The line in a slot of the task at a place, if there is one.

@@ -49,12 +49,9 @@ fn read(heap: Global, text: &[u8], sheet: &mut [u32]) -> Result<Table, LoadFault
         let line = reader.line();
         let place = reader.place();
         match loader.next(&mut reader, sheet) {
+            Ok(true) => return last(&reader, loader),
+            Ok(false) => {}
             Err(fault) => return Err(fault.at(line, place)),
-            Ok(ended) => {
-                if ended {
-                    return last(&reader, loader);
-                }
-            }
         }
     }
     Err(no_trailer(&reader))
@@ -76,10 +73,7 @@ fn may_load(bench: &Bench, bytes: usize, cells: usize) -> Result<(), TableFault>
 fn copy_of(heap: Global, sheet: &[u32]) -> Result<Vec<u32>, TableFault>
     ensures { MatchResult result (λ v. v.items ≡ sheet.now) (λ e. e.0 ≡ NoMemory) }
 {
-    match Vec::from_slice(heap, sheet) {
-        Ok(copy) => Ok(copy),
-        Err(_) => Err(TableFault(Refusal::NoMemory)),
-    }
+    Ok(Vec::from_slice(heap, sheet).map_err(Refusal::from)?)
 }
 
 /// The table that a text spells, and a sheet as its closes leave it.
