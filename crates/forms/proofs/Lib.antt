@@ -4,3 +4,4 @@ pub mod Numerals
 pub mod ReadBack
 pub mod Canonical
 pub mod Readings
+pub mod Gathering

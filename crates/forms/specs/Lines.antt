@@ -1,5 +1,5 @@
 -- What reading a line gives, step by step. Assumes nothing.
-use Rattle.std.specs.Prelude.{ℕ, zero, suc, cond, Some, None, Ok, Err, Option, Result}
+use Rattle.std.specs.Prelude.{ℕ, zero, suc, cond, List, [], ◌∷◌, Some, None, Ok, Err, Option, Result}
 use Rattle.forms.specs.declared.form.Form.{Form}
 use Rattle.forms.specs.declared.form.Form.TheVariants.{Sporadic, Angular, Mode, Link, End}
 use Rattle.forms.specs.declared.form.NoForm.{NoForm}
@@ -48,6 +48,11 @@ number_at s = number_from (token_at s) (past_word s)
 -- A space and a number.
 abbrev pub field_of : At → Step ℕ
 field_of s = after (space_of s) (λ _ t. number_at t)
+
+-- n numbers, each after a space, and the end of the line.
+abbrev pub numbers_of : ℕ → At → Step (List ℕ)
+numbers_of zero s = after (line_end_of s) (λ _ t. done [] t)
+numbers_of (suc n) s = after (field_of s) (λ v t. after (numbers_of n t) (λ vs u. done (v ∷ vs) u))
 
 -- What takes n numbers and makes a form of them.
 abbrev pub Makes : ℕ → Type 0

@@ -1,7 +1,7 @@
 //! The lines of a text.
 ghost use Rattle.std.specs.Prelude.{◌≡◌, MatchResult};
 ghost use Rattle.text.specs.Readers.{at};
-ghost use Rattle.forms.specs.Lines.{out, sporadic_of, angular_of, mode_of, link_of, end_of, body_of, form_of, line_of};
+ghost use Rattle.forms.specs.Lines.{out, numbers_of, sporadic_of, angular_of, mode_of, link_of, end_of, body_of, form_of, line_of};
 ghost use Rattle.forms.specs.Reads.{Spelled, Formless, Reads};
 
 use super::{Reader, Token};
@@ -9,15 +9,23 @@ use forms::form::{Form, NoForm};
 use forms::keyword::Keyword;
 
 impl Reader<'_> {
+    /// As many numbers, each after a space, and the end of the line.
+    fn numbers<const N: usize>(&mut self) -> Result<[u32; N], NoForm>
+        ensures { out result (at self.new) ≡ numbers_of N (at self.old) }
+    {
+        let mut numbers = [0; N];
+        for number in numbers.iter_mut() {
+            *number = self.field()?;
+        }
+        self.line_end()?;
+        Ok(numbers)
+    }
+
     /// The four numbers of a sporadic task.
     fn sporadic(&mut self) -> Result<Form, NoForm>
         ensures { out result (at self.new) ≡ sporadic_of (at self.old) }
     {
-        let number = self.field()?;
-        let cost = self.field()?;
-        let period = self.field()?;
-        let deadline = self.field()?;
-        self.line_end()?;
+        let [number, cost, period, deadline] = self.numbers::<4>()?;
         Ok(Form::Sporadic {
             number,
             cost,
@@ -30,8 +38,7 @@ impl Reader<'_> {
     fn angular(&mut self) -> Result<Form, NoForm>
         ensures { out result (at self.new) ≡ angular_of (at self.old) }
     {
-        let number = self.field()?;
-        self.line_end()?;
+        let [number] = self.numbers::<1>()?;
         Ok(Form::Angular { number })
     }
 
@@ -39,9 +46,7 @@ impl Reader<'_> {
     fn mode(&mut self) -> Result<Form, NoForm>
         ensures { out result (at self.new) ≡ mode_of (at self.old) }
     {
-        let cost = self.field()?;
-        let deadline = self.field()?;
-        self.line_end()?;
+        let [cost, deadline] = self.numbers::<2>()?;
         Ok(Form::Mode { cost, deadline })
     }
 
@@ -49,10 +54,7 @@ impl Reader<'_> {
     fn link(&mut self) -> Result<Form, NoForm>
         ensures { out result (at self.new) ≡ link_of (at self.old) }
     {
-        let from = self.field()?;
-        let to = self.field()?;
-        let gap = self.field()?;
-        self.line_end()?;
+        let [from, to, gap] = self.numbers::<3>()?;
         Ok(Form::Link { from, to, gap })
     }
 
@@ -60,9 +62,7 @@ impl Reader<'_> {
     fn end(&mut self) -> Result<Form, NoForm>
         ensures { out result (at self.new) ≡ end_of (at self.old) }
     {
-        let count = self.field()?;
-        let place = self.field()?;
-        self.line_end()?;
+        let [count, place] = self.numbers::<2>()?;
         Ok(Form::End { count, place })
     }
 
