@@ -16,6 +16,7 @@ pub struct Reader<'a> {
 }
 
 /// A word of the text: its bytes, as a slice of the text, and the place of the first of them.
+// Two cases, and not a word with an Option beside it: who takes a token has to say which of the two it wants.
 #[derive(Clone, Copy)]
 pub enum Token<'a> {
     /// A word that spells no number.

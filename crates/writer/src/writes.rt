@@ -6,6 +6,9 @@ ghost use Rattle.writer.specs.Output.{overwrite, line_of, Wrote, WriteDone};
 use crate::lengths::form_len;
 use forms::form::Form;
 
+// The output is lent, and the place goes beside it: a cursor that held the output would have to say in each
+// contract that it is still the caller's.
+
 /// The last digit of `n`.
 fn last_digit(n: u32) -> u8
     ensures { result ≡ 48 + n % 10 }
