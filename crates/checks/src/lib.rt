@@ -11,12 +11,10 @@ mod tests {
     use std::test::Fail;
     use store::load::load;
 
-    // The number, line and place of load's refusal, and 0 where it is accepted.
-    fn refusal(bench: &mut Bench, text: &[u8], sheet: &mut [u32]) -> (u8, usize, usize) {
-        match load(bench, text, sheet) {
-            Ok(()) => (0, 0, 0),
-            Err(fault) => (fault.refusal.number(), fault.line, fault.place),
-        }
+    // The number, line and place of load's refusal, if it is refused.
+    fn refusal(bench: &mut Bench, text: &[u8], sheet: &mut [u32]) -> Option<(u8, usize, usize)> {
+        let fault = load(bench, text, sheet).err()?;
+        Some((fault.refusal.number(), fault.line, fault.place))
     }
 
     #[test]
@@ -26,13 +24,13 @@ mod tests {
         let mut sheet = vec![in heap; 7; SHEET]?;
         let mut short = vec![in heap; 7; 10]?;
         let text = b"sporadic 7 2 10 10\nend 1 0\n";
-        assert_eq!(rt; refusal(&mut bench, text, &mut short), (2, 0, 0));
-        assert_eq!(rt; refusal(&mut bench, text, &mut sheet), (0, 0, 0));
-        assert_eq!(rt; refusal(&mut bench, text, &mut sheet), (14, 0, 0));
+        assert_eq!(rt; refusal(&mut bench, text, &mut short), Some((2, 0, 0)));
+        assert_eq!(rt; refusal(&mut bench, text, &mut sheet), None);
+        assert_eq!(rt; refusal(&mut bench, text, &mut sheet), Some((14, 0, 0)));
         let draft = bench.open(20, 0)?;
         let answer = refusal(&mut bench, text, &mut sheet);
         bench.abandon(draft);
-        assert_eq!(rt; answer, (12, 0, 0));
+        assert_eq!(rt; answer, Some((12, 0, 0)));
         assert_eq!(rt; bench.table().count(), 1);
         Ok(())
     }
@@ -43,7 +41,7 @@ mod tests {
         let mut bench = Bench::new(1, heap)?;
         let mut sheet = vec![in heap; 7; SHEET]?;
         let text = b"angular 20\nmode 5 20\nlink 0 0 30\nsporadic 7 2 10 10\nend 2 1\n";
-        assert_eq!(rt; refusal(&mut bench, text, &mut sheet), (6, 5, 52));
+        assert_eq!(rt; refusal(&mut bench, text, &mut sheet), Some((6, 5, 52)));
         assert_eq!(rt; bench.table().count(), 0);
         assert_eq!(rt; sheet.first().copied(), Some(7));
         Ok(())
@@ -67,16 +65,13 @@ mod tests {
         let mut other = Bench::new(2, heap)?;
         let mut sheet = vec![in heap; 0; SHEET]?;
         let draft = first.open(20, 0)?;
-        let stranger = match other.mode(&draft, 5, 20) {
-            Ok(()) => 0,
-            Err(e) => e.number(),
-        };
+        let stranger = other.mode(&draft, 5, 20);
         let (draft, whole) = match first.close(draft, &mut sheet) {
             Ok(()) => return Err(Fail::new("a task without a mode was closed")),
             Err((draft, e)) => (draft, e.number()),
         };
         other.abandon(draft);
-        assert_eq!(rt; stranger, 13);
+        assert_eq!(rt; stranger.err().map(|e| e.number()), Some(13));
         assert_eq!(rt; whole, 20);
         assert!(rt; opening_refused(&mut first));
         Ok(())
