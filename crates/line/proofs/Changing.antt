@@ -1,7 +1,7 @@
 -- Changes of a task: links out of a mode other than a given one, and what an accepted change was told. Assumes
 -- nothing.
-use Rattle.std.proofs.Common.{◌≡◌, ℕ, zero, suc, ◌+◌, ◌<◌, Bool, true, false, cond, not, eqb, leb, is_some, Some, None, Ok, Err, Decides, Option, sym, refl, ap, ◌∙◌, inl, inr, add-one, arith}
-use Rattle.std.proofs.lemmas.Bool.{and_parts, and_from, or_left, or_right, or_from, cases_eq, cases_lt, eqb-false, ne_eqb, not-true, not_from_false, cond-true, cond-false, lt-ltb, le-ltb, lt-leb, le-leb}
+use Rattle.std.proofs.Common.{◌≡◌, ℕ, ◌<◌, Bool, true, false, cond, not, eqb, leb, is_some, Some, None, Ok, Err, Decides, Option, sym, refl, ◌∙◌, inl, inr, arith}
+use Rattle.std.proofs.lemmas.Bool.{and_parts, and_from, cases_lt, eqb-false, ne_eqb, not-true, not_from_false, cond-true, cond-false, lt-ltb, le-ltb, lt-leb, le-leb}
 use Rattle.std.proofs.lemmas.Bool.Decides.{Decides-below_or, nat_tests}
 use Rattle.line.specs.declared.refusal.Refusal.TheVariants.{NotThere, NotReduced}
 use Rattle.line.specs.declared.change.Change.{Change}
@@ -9,19 +9,6 @@ use Rattle.line.specs.declared.change.Change.TheVariants.{Lower, Widen, Cut}
 use Rattle.line.specs.Meaning.{Graph, cost_of, gap_of}
 use Rattle.line.specs.Answers.{Answer}
 use Rattle.line.specs.Changes.{goes_else, leads_else, LeadsElse, widen_answer, cut_answer, change_answer}
-
-else_at : (G : Graph) (from to k b : ℕ) → b < k → goes_else G from to b ≡ true → leads_else G from to k ≡ true
-else_at G from to zero b h e = absurd (omega (arith, h))
-else_at G from to (suc k) b h e = elim (cases_eq b k) [
-  | inl q ↦ or_left _ _ (ap (goes_else G from to) (sym q) ∙ e)
-  | inr n ↦ or_right _ _ (else_at G from to k b (omega arith) e)
-]
-
-pub else_found : (G : Graph) (from to b : ℕ) → b < G.modes → goes_else G from to b ≡ true → true ≡ leads_else G from to G.modes
-else_found G from to b h e = sym (else_at G from to G.modes b h e)
-
-pub else_more : (G : Graph) (from to k : ℕ) → leads_else G from to k ≡ false → goes_else G from to k ≡ false → leads_else G from to (k + 1) ≡ false
-else_more G from to k h e = rw add-one (or_from _ _ e h)
 
 decides_else : (G : Graph) (from to b : ℕ) → Decides (goes_else G from to b) (((b ≡ to) → ⊥) × (is_some (gap_of G from b) ≡ true))
 decides_else G from to b = (

@@ -32,7 +32,7 @@ deadline_at m l k i =
 pub cost_at : (m : Meaning) → Lawful m → (k i : ℕ) → cost_in (task_at m k) i ≤ 1000
 cost_at m l k i =
     task_by m (λ t. cost_in t i ≤ 1000)
-    (λ k h. capped (ltb i _) _ _ (λ e. let lt = ltb-true _ _ e in omega (arith, (l.each k h).limits.cost_fits i lt, (l.each k h).limits.deadline_fits i lt)))
+    (λ k h. capped (ltb i _) _ _ (λ e. let lt : i < (m.at k).graph.modes = ltb-true _ _ e in omega (arith, (l.each k h).limits.cost_fits i lt, (l.each k h).limits.deadline_fits i lt)))
     (capped (ltb i 0) 0 _ (λ _. omega arith)) k
 
 pub modes_at : (m : Meaning) → Lawful m → (k : ℕ) → modes_in (task_at m k) ≤ 16

@@ -1,5 +1,5 @@
 -- The laws of a joined line from those of its parts, and what it shows. Assumes nothing.
-use Rattle.std.specs.Prelude.{◌≡◌, ℕ, ◌+◌, ◌-◌, ◌<◌, ◌≤◌, Bool, true, false, cond, List, length, Ok, Err, MatchBool, Result, nat_lt, refl}
+use Rattle.std.specs.Prelude.{◌≡◌, ℕ, ◌+◌, ◌-◌, ◌<◌, ◌≤◌, Bool, true, false, cond, List, length, Some, None, Ok, Err, MatchBool, Option, Result, nat_lt, refl}
 use Rattle.std.proofs.Common.{sym, ap, subst, ◌∙◌, arith, ltb-true, ltb-false}
 use Rattle.std.proofs.lemmas.Bool.{cond-true, cond-false, lt-ltb, le-ltb}
 use Rattle.std.proofs.lemmas.Bool.Decides.{nat_tests}
@@ -9,7 +9,7 @@ use Rattle.line.specs.Lawful.{Lawful, TaskLaws}
 use Rattle.line.specs.Shows.{show_answer, ShowDone, Shown}
 use Rattle.line.specs.Joins.{joined, side_of, SideShown}
 use Rattle.line.specs.declared.joined.Side.{Side}
-use Rattle.line.specs.declared.joined.Side.TheVariants.{Top, Low, Past}
+use Rattle.line.specs.declared.joined.Side.TheVariants.{Top, Low}
 
 module _ (a b : Meaning) where
   each_joined : Lawful a → Lawful b → (k : ℕ) → k < a.count + b.count → (c : Bool) → nat_lt k a.count ≡ c → TaskLaws (cond c (a.at k) (b.at (k - a.count)))
@@ -49,13 +49,13 @@ at_low a b place h = sym (cond-false _ _ _ (le-ltb place a.count h))
 pub shows : (count place window s l : ℕ) → show_answer count place window s l ≡ Ok tt → (place < count) × (place < 16)
 shows count place window s l ok = (grind (arith, nat_tests), grind (arith, nat_tests))
 
-top_side : (above place k : ℕ) → Top k ≡ side_of above place → (k ≡ place) × (place < above)
+top_side : (above place k : ℕ) → Some (Top k) ≡ side_of above place → (k ≡ place) × (place < above)
 top_side above place k e = (grind (arith, nat_tests), grind (arith, nat_tests))
 
-low_side : (above place k : ℕ) → Low k ≡ side_of above place → (k ≡ place - above) × (above ≤ place)
+low_side : (above place k : ℕ) → Some (Low k) ≡ side_of above place → (k ≡ place - above) × (above ≤ place)
 low_side above place k e = (grind (arith, nat_tests), grind (arith, nat_tests))
 
-past_side : (above place : ℕ) → Past ≡ side_of above place → 16 ≤ place
+past_side : (above place : ℕ) → None ≡ side_of above place → 16 ≤ place
 past_side above place e = grind (arith, nat_tests)
 
 module _ (a b : Meaning) (LA LB : ℕ → List ℕ → List ℕ → Type 0) (count place window : ℕ) (sheet sheet' list list' : List ℕ) (u : Unit {0})
@@ -66,7 +66,7 @@ module _ (a b : Meaning) (LA LB : ℕ → List ℕ → List ℕ → Type 0) (cou
   may : show_answer (joined a b).count place window (length sheet) (length list) ≡ Ok tt
   may = subst (λ n. show_answer n place window (length sheet) (length list) ≡ Ok tt) same (sym ok)
 
-  pub shows_top : (k : ℕ) (r : Result ℕ Refusal) → Top k ≡ side_of a.count place → ShowDone a (LA k) k window sheet sheet' list list' r → ShowDone (joined a b) Leaves place window sheet sheet' list list' r
+  pub shows_top : (k : ℕ) (r : Result ℕ Refusal) → Some (Top k) ≡ side_of a.count place → ShowDone a (LA k) k window sheet sheet' list list' r → ShowDone (joined a b) Leaves place window sheet sheet' list list' r
   shows_top k r e done =
       let t = top_side a.count place k e in
       show_part (joined a b) a Leaves (LA k) place k window sheet sheet' list list' r may (omega (arith, t.0)) (omega (arith, t.0, t.1))
@@ -74,7 +74,7 @@ module _ (a b : Meaning) (LA LB : ℕ → List ℕ → List ℕ → Type 0) (cou
       (λ h. subst (λ x. MatchBool x (LA place sheet sheet') (LB (place - a.count) sheet sheet')) (sym (lt-ltb place a.count t.1)) (subst (λ x. LA x sheet sheet') t.0 h))
       done
 
-  pub shows_low : (k : ℕ) (r : Result ℕ Refusal) → Low k ≡ side_of a.count place → ShowDone b (LB k) k window sheet sheet' list list' r → ShowDone (joined a b) Leaves place window sheet sheet' list list' r
+  pub shows_low : (k : ℕ) (r : Result ℕ Refusal) → Some (Low k) ≡ side_of a.count place → ShowDone b (LB k) k window sheet sheet' list list' r → ShowDone (joined a b) Leaves place window sheet sheet' list list' r
   shows_low k r e done =
       let t = low_side a.count place k e in
       let p = shows (joined a b).count place window (length sheet) (length list) may in
@@ -83,7 +83,7 @@ module _ (a b : Meaning) (LA LB : ℕ → List ℕ → List ℕ → Type 0) (cou
       (λ h. subst (λ x. MatchBool x (LA place sheet sheet') (LB (place - a.count) sheet sheet')) (sym (le-ltb place a.count t.1)) (subst (λ x. LB x sheet sheet') t.0 h))
       done
 
-  pub shows_side : (side : Side) (r : Result ℕ Refusal) → side ≡ side_of a.count place → SideShown a b LA LB side window sheet sheet' list list' r → ShowDone (joined a b) Leaves place window sheet sheet' list list' r
-  shows_side (Top k) r e done = shows_top k r e done
-  shows_side (Low k) r e done = shows_low k r e done
-  shows_side Past r e done = absurd (omega (arith, past_side a.count place e, (shows (joined a b).count place window (length sheet) (length list) may).1))
+  pub shows_side : (side : Option Side) (r : Result ℕ Refusal) → side ≡ side_of a.count place → SideShown a b LA LB side window sheet sheet' list list' r → ShowDone (joined a b) Leaves place window sheet sheet' list list' r
+  shows_side (Some (Top k)) r e done = shows_top k r e done
+  shows_side (Some (Low k)) r e done = shows_low k r e done
+  shows_side None r e done = absurd (omega (arith, past_side a.count place e, (shows (joined a b).count place window (length sheet) (length list) may).1))

@@ -66,12 +66,7 @@ fn goes_else<L: Line>(line: &L, place: usize, from: usize, to: usize, b: usize) 
 fn leads_else<L: Line>(line: &L, place: usize, from: usize, to: usize) -> bool
     ensures { result ≡ leads_else (task_at (L.meaning line.now) place).graph from to (task_at (L.meaning line.now) place).graph.modes }
 {
-    for b in 0..line.modes(place) {
-        if goes_else(line, place, from, to, b) {
-            return true;
-        }
-    }
-    false
+    (0..line.modes(place)).any(|b| goes_else(line, place, from, to, b))
 }
 
 /// Whether a mode may get a smaller cost.
@@ -109,9 +104,12 @@ fn may_cut(stands: Option<u32>, other: bool) -> Result<(), Refusal>
     }
 }
 
-/// What the task at a place answers to a change.
-fn answer<L: Line>(line: &L, place: usize, change: Change) -> Result<(), Refusal>
-    ensures { result ≡ change_answer (task_at (L.meaning line.now) place).graph change }
+/// Whether the task at a place may be changed: the mode or link is there, a cost gets smaller, a gap
+/// larger, and a link that is struck out is not the last one out of its mode.
+#[tactic(auto, using(crate::proofs::Changing::leads_else_lem))]
+pub fn may_change<L: Line>(line: &L, place: usize, change: Change) -> Result<(), Refusal>
+    ensures answer { result ≡ change_answer (task_at (L.meaning line.now) place).graph change }
+    ensures other { LeadsElse (task_at (L.meaning line.now) place).graph }
 {
     match change {
         Change::Lower { mode, cost } => may_lower(line, place, mode, cost),
@@ -121,13 +119,4 @@ fn answer<L: Line>(line: &L, place: usize, change: Change) -> Result<(), Refusal
             leads_else(line, place, from, to),
         ),
     }
-}
-
-/// Whether the task at a place may be changed: the mode or link is there, a cost gets smaller, a gap
-/// larger, and a link that is struck out is not the last one out of its mode.
-pub fn may_change<L: Line>(line: &L, place: usize, change: Change) -> Result<(), Refusal>
-    ensures answer { result ≡ change_answer (task_at (L.meaning line.now) place).graph change }
-    ensures other { LeadsElse (task_at (L.meaning line.now) place).graph }
-{
-    answer(line, place, change)
 }

@@ -31,25 +31,25 @@ pub fn join<Top: Line, Low: Line>(top: Top, low: Low) -> Joined<Top, Low>
     Joined(top, low)
 }
 
-/// Where a place of a joined line lies: in the first line, in the second, or past both.
+/// Where a place of a joined line lies: in the first line or in the second, and at which place of it.
 #[derive(Clone, Copy)]
 pub enum Side {
     Top(usize),
     Low(usize),
-    Past,
 }
 
 impl<Top: Line, Low: Line> Joined<Top, Low> {
-    fn side(&self, place: usize) -> Side
+    /// Where a place lies, if it is not past both lines.
+    fn side(&self, place: usize) -> Option<Side>
         ensures { result ≡ side_of (Top.Line.meaning self.now.0).count place }
     {
         let above = self.0.count();
         if place >= PLACES {
-            Side::Past
+            None
         } else if place < above {
-            Side::Top(place)
+            Some(Side::Top(place))
         } else {
-            Side::Low(place - above)
+            Some(Side::Low(place - above))
         }
     }
 }
@@ -67,41 +67,41 @@ impl<Top: Line, Low: Line> Line for Joined<Top, Low> {
 
     fn modes(&self, place: usize) -> usize {
         match self.side(place) {
-            Side::Top(k) => self.0.modes(k),
-            Side::Low(k) => self.1.modes(k),
-            Side::Past => 0,
+            Some(Side::Top(k)) => self.0.modes(k),
+            Some(Side::Low(k)) => self.1.modes(k),
+            None => 0,
         }
     }
 
     fn cost(&self, place: usize, mode: usize) -> u32 {
         match self.side(place) {
-            Side::Top(k) => self.0.cost(k, mode),
-            Side::Low(k) => self.1.cost(k, mode),
-            Side::Past => 0,
+            Some(Side::Top(k)) => self.0.cost(k, mode),
+            Some(Side::Low(k)) => self.1.cost(k, mode),
+            None => 0,
         }
     }
 
     fn deadline(&self, place: usize, mode: usize) -> u32 {
         match self.side(place) {
-            Side::Top(k) => self.0.deadline(k, mode),
-            Side::Low(k) => self.1.deadline(k, mode),
-            Side::Past => 0,
+            Some(Side::Top(k)) => self.0.deadline(k, mode),
+            Some(Side::Low(k)) => self.1.deadline(k, mode),
+            None => 0,
         }
     }
 
     fn gap(&self, place: usize, from: usize, to: usize) -> Option<u32> {
         match self.side(place) {
-            Side::Top(k) => self.0.gap(k, from, to),
-            Side::Low(k) => self.1.gap(k, from, to),
-            Side::Past => None,
+            Some(Side::Top(k)) => self.0.gap(k, from, to),
+            Some(Side::Low(k)) => self.1.gap(k, from, to),
+            None => None,
         }
     }
 
     fn most(&self, place: usize, window: u32) -> u32 {
         match self.side(place) {
-            Side::Top(k) => self.0.most(k, window),
-            Side::Low(k) => self.1.most(k, window),
-            Side::Past => 0,
+            Some(Side::Top(k)) => self.0.most(k, window),
+            Some(Side::Low(k)) => self.1.most(k, window),
+            None => 0,
         }
     }
 }
@@ -132,7 +132,7 @@ impl<Top: ExactLine, Low: ExactLine> Joined<Top, Low> {
     /// Has the line that holds a task show it.
     fn show_on(
         &self,
-        side: Side,
+        side: Option<Side>,
         window: u32,
         sheet: &mut [u32],
         list: &mut [u8],
@@ -140,9 +140,9 @@ impl<Top: ExactLine, Low: ExactLine> Joined<Top, Low> {
         ensures { SideShown (Top.Line.meaning self.now.0) (Low.Line.meaning self.now.1) (Top.ExactLine.leaves self.now.0) (Low.ExactLine.leaves self.now.1) side window sheet.old sheet.new list.old list.new result }
     {
         match side {
-            Side::Top(k) => self.0.show(k, window, sheet, list),
-            Side::Low(k) => self.1.show(k, window, sheet, list),
-            Side::Past => Err(Refusal::OutOfRange),
+            Some(Side::Top(k)) => self.0.show(k, window, sheet, list),
+            Some(Side::Low(k)) => self.1.show(k, window, sheet, list),
+            None => Err(Refusal::OutOfRange),
         }
     }
 }

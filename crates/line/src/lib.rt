@@ -17,6 +17,7 @@ use crate::refusal::Refusal;
 pub mod change;
 pub mod joined;
 pub mod limits;
+pub mod ranged;
 pub mod refusal;
 
 /// A line of tasks by priority; place 0 is the highest.

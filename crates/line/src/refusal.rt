@@ -9,49 +9,49 @@ use std::alloc::AllocError;
 #[derive(Clone, Copy, PartialEq, Eq, Debug)]
 pub enum Refusal {
     /// A number, or a text's length, is out of its range.
-    OutOfRange,
+    OutOfRange = 1,
     /// The work sheet, the cells, the list or the output is too short.
-    TooShort,
+    TooShort = 2,
     /// A cost is above its deadline.
-    CostAboveDeadline,
+    CostAboveDeadline = 3,
     /// A deadline is above the period.
-    DeadlineAbovePeriod,
+    DeadlineAbovePeriod = 4,
     /// A line of text has none of the five forms.
-    NoForm,
+    NoForm = 5,
     /// The trailer is missing, followed by anything, or wrong.
-    Trailer,
+    Trailer = 6,
     /// A run is open.
-    RunOpen,
+    RunOpen = 11,
     /// A draft is open.
-    DraftOpen,
+    DraftOpen = 12,
     /// The bench has no draft or run for this ticket.
-    NoTicket,
+    NoTicket = 13,
     /// The bench has tasks.
-    HasTasks,
+    HasTasks = 14,
     /// There is no room for another task, angular task, mode or joined line.
-    NoRoom,
+    NoRoom = 15,
     /// The number is in the table.
-    NumberTaken,
+    NumberTaken = 16,
     /// The task, mode or link named is not there.
-    NotThere,
+    NotThere = 17,
     /// The pair is linked.
-    Linked,
+    Linked = 18,
     /// The gap is below the deadline of the mode that it leaves.
-    GapBelowDeadline,
+    GapBelowDeadline = 19,
     /// There is no mode, or a mode would have no link out.
-    NoLinkOut,
+    NoLinkOut = 20,
     /// The cost is not smaller, or the gap not larger.
-    NotReduced,
+    NotReduced = 21,
     /// The released cost is above the mode's.
-    CostAboveMode,
+    CostAboveMode = 22,
     /// There is no such link, or the release is too early.
-    NotYet,
+    NotYet = 23,
     /// The run has ended late.
-    EndedLate,
+    EndedLate = 24,
     /// The clock would pass its limit.
-    PastClock,
+    PastClock = 25,
     /// No memory was to be had.
-    NoMemory,
+    NoMemory = 40,
 }
 
 impl Refusal {
@@ -59,30 +59,7 @@ impl Refusal {
     pub fn number(self) -> u8
         ensures { result ≡ number_of self }
     {
-        match self {
-            Refusal::OutOfRange => 1,
-            Refusal::TooShort => 2,
-            Refusal::CostAboveDeadline => 3,
-            Refusal::DeadlineAbovePeriod => 4,
-            Refusal::NoForm => 5,
-            Refusal::Trailer => 6,
-            Refusal::RunOpen => 11,
-            Refusal::DraftOpen => 12,
-            Refusal::NoTicket => 13,
-            Refusal::HasTasks => 14,
-            Refusal::NoRoom => 15,
-            Refusal::NumberTaken => 16,
-            Refusal::NotThere => 17,
-            Refusal::Linked => 18,
-            Refusal::GapBelowDeadline => 19,
-            Refusal::NoLinkOut => 20,
-            Refusal::NotReduced => 21,
-            Refusal::CostAboveMode => 22,
-            Refusal::NotYet => 23,
-            Refusal::EndedLate => 24,
-            Refusal::PastClock => 25,
-            Refusal::NoMemory => 40,
-        }
+        self as u8
     }
 }
 
