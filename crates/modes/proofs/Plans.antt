@@ -1,14 +1,18 @@
 -- The limits of a graph of modes, as it is filled. Assumes nothing.
-use Rattle.std.proofs.Common.{◌≡◌, ℕ, zero, suc, ◌+◌, ◌*◌, ◌<◌, ◌≤◌, Bool, true, false, cond, not, ◌&&◌, ◌||◌, eqb, ltb, List, [], ◌∷◌, ◌++◌, length, get_or, set, replicate, is_some, is_ok, Some, None, Ok, Err, vec_items, vec_len, Decides, Option, sym, refl, ap, ◌∙◌, subst, inl, inr, add-one, arith, get_or-set_other, get_or-set_same}
-use Rattle.std.proofs.lemmas.List.{get_or_append_left, get_or_past, get_or_push, get_or_read, length_push}
-use Rattle.std.proofs.lemmas.Bool.{and_parts, and_from, and_left, and_right, or_left, or_right, or_from, cond-true, cases_eq, cases_lt, eqb-false, ne_eqb, not-true, not_from_false, ltb-true, leb-true, lt-ltb, le-leb}
+use Rattle.std.proofs.Common.{◌≡◌, ℕ, zero, suc, ◌+◌, ◌-◌, ◌*◌, ◌<◌, ◌≤◌, Bool, true, false, cond, not, ◌&&◌, ◌||◌, eqb, List, [], ◌∷◌, ◌++◌, length, get_or, take, set, replicate, is_some, is_ok, Some, None, Ok, Err, vec_items, vec_len, Decides, Option, sym, refl, ap, ◌∙◌, subst, inl, inr, add-one, arith, length-set, get_or-set_other, get_or-set_same}
+use Rattle.std.specs.List.{list_any, list_all}
+use Rattle.std.proofs.Math.Bool.{or_comm, and_comm}
+use Rattle.std.proofs.lemmas.List.Folds.{list_any_more, list_all_more}
+use Rattle.std.proofs.lemmas.List.{take_all, get_or_append_left, get_or_push, get_or_read, length_push}
+use Rattle.std.proofs.lemmas.Bool.{and_parts, and_from, cond-true, cases_eq, eqb-false, ne_eqb, not-true, not_from_false, ltb-true, leb-true, lt-ltb, le-leb}
 use Rattle.std.proofs.lemmas.Bool.Decides.{Decides-at, Decides-below_and, Decides-below_or, nat_tests}
 use Rattle.line.specs.declared.refusal.Refusal.TheVariants.{NoLinkOut}
 use Rattle.line.specs.Meaning.{Graph}
 use Rattle.line.specs.Lawful.{GraphLaws}
 use Rattle.line.specs.Answers.{Answer}
-use Rattle.modes.specs.Plans.{Plan, blank, graph_of, mode_at, gap_at, add_answer, leads_out, all_lead_out, whole_answer, Whole, right_mode, right_gap, RightModes, RightGaps}
+use Rattle.modes.specs.Plans.{Plan, blank, graph_of, cells, AllRows, gap_at, add_answer, leads_out, all_lead_out, whole_answer, Whole, right_mode, right_gap, RightModes, RightGaps}
 use Rattle.modes.specs.Graphs.{plan}
+use Rattle.modes.proofs.Rows.{length-cells, cell_at, set_cell, set_row}
 use Rattle.modes.specs.declared.graph.Mode.{Mode}
 use Rattle.modes.specs.declared.graph.ModeGraph.{ModeGraph}
 
@@ -99,31 +103,56 @@ set_right modes gaps from to gap lf lt long right h a b lb = elim (cases_eq (a *
 ]
 
 -- ---- links out
-leads_at : (G : Graph) (a k b : ℕ) → b < k → is_some (G.gap a b) ≡ true → leads_out G a k ≡ true
-leads_at G a zero b h e = absurd (omega (arith, h))
-leads_at G a (suc k) b h e = elim (cases_eq b k) [
-  | inl q ↦ or_left _ _ (ap (λ x. is_some (G.gap a x)) (sym q) ∙ e)
-  | inr n ↦ or_right _ _ (leads_at G a k b (omega arith) e)
-]
+-- There is a row for each mode.
+pub tall : (g : ModeGraph) → vec_len g.gaps ≡ 16
+tall g = omega (arith, length-cells (vec_items g.gaps) g.rows, g.square, g.gaps.ok.0)
 
-pub leads_found : (G : Graph) (a b : ℕ) → b < G.modes → is_some (G.gap a b) ≡ true → true ≡ leads_out G a G.modes
-leads_found G a b h e = sym (leads_at G a G.modes b h e)
+-- A row has a gap just if its mode has a link to one of the modes.
+module _ (G : Graph) (a : ℕ) (row : List (Option ℕ)) (long : length row ≡ 16) (same : (b : ℕ) → b < 16 → get_or row b None ≡ G.gap a b) where
+  row_leads : (k : ℕ) → k ≤ 16 → list_any is_some (take k row) ≡ leads_out G a k
+  row_leads zero h = refl
+  row_leads (suc k) h =
+      let within : k < length row = omega arith in
+      ap (λ n. list_any is_some (take n row)) (sym (add-one k)) ∙ list_any_more is_some row k None within
+      ∙ or_comm (list_any is_some (take k row)) (is_some (get_or row k None))
+      ∙ ap (λ b. b || list_any is_some (take k row)) (ap is_some (same k (omega arith))) ∙ ap (λ b. is_some (G.gap a k) || b) (row_leads k (omega arith))
 
-pub leads_more : (G : Graph) (a k : ℕ) → leads_out G a k ≡ false → is_some (G.gap a k) ≡ false → leads_out G a (k + 1) ≡ false
-leads_more G a k h e = rw add-one (or_from _ _ e h)
+  beyond : (k n : ℕ) → k ≡ G.modes + n → k ≤ 16 → ((b : ℕ) → G.modes ≤ b → b < 16 → is_some (G.gap a b) ≡ false) → leads_out G a k ≡ leads_out G a G.modes
+  beyond k zero e h none = ap (leads_out G a) (omega (arith, e))
+  beyond k (suc n) e h none =
+      let s : k ≡ suc (G.modes + n) = omega (arith, e) in
+      ap (leads_out G a) s ∙ ap (λ b. b || leads_out G a (G.modes + n)) (none (G.modes + n) (omega arith) (omega arith)) ∙ beyond (G.modes + n) n refl (omega arith) none
 
-all_misses : (G : Graph) (k m : ℕ) → m < k → leads_out G m G.modes ≡ false → all_lead_out G k ≡ false
-all_misses G zero m h e = absurd (omega (arith, h))
-all_misses G (suc k) m h e = elim (cases_eq m k) [
-  | inl q ↦ and_left _ _ (ap (λ x. leads_out G x G.modes) (sym q) ∙ e)
-  | inr n ↦ and_right _ _ (all_misses G k m (omega arith) e)
-]
+  pub row_all : G.modes ≤ 16 → ((b : ℕ) → G.modes ≤ b → b < 16 → is_some (G.gap a b) ≡ false) → list_any is_some row ≡ leads_out G a G.modes
+  row_all few none = ap (list_any is_some) (sym (take_all 16 row (omega (arith, long)))) ∙ row_leads 16 (omega arith) ∙ beyond 16 (16 - G.modes) (omega (arith, few)) (omega arith) none
 
-pub all_found : (G : Graph) (m : ℕ) → m < G.modes → leads_out G m G.modes ≡ false → false ≡ all_lead_out G G.modes
-all_found G m h e = sym (all_misses G G.modes m h e)
+-- No gap leads past the last mode.
+no_gap : (modes : List Mode) (a b : ℕ) (o : Option ℕ) → right_gap modes a b o ≡ true → length modes ≤ b → is_some o ≡ false
+no_gap modes a b None h past = refl
+no_gap modes a b (Some g) h past = absurd (omega (arith, past, (gap_limits modes a b g h).1))
 
-pub all_more : (G : Graph) (k : ℕ) → all_lead_out G k ≡ true → leads_out G k G.modes ≡ true → all_lead_out G (k + 1) ≡ true
-all_more G k h e = rw add-one (and_from _ _ e h)
+-- Each of the first rows has a gap just if each of the first modes has a link out.
+module _ (g : ModeGraph) where
+  abbrev G : Graph
+  G = graph_of (plan g)
+
+  few : G.modes ≤ 16
+  few = omega (arith, g.few, g.modes.ok.0)
+
+  row_at : (k : ℕ) → k < 16 → list_any is_some (get_or (vec_items g.gaps) k []) ≡ leads_out G k G.modes
+  row_at k h =
+      let within : k < length (vec_items g.gaps) = omega (arith, tall g, g.gaps.ok.0) in
+      row_all G k (get_or (vec_items g.gaps) k []) (g.rows k within) (λ b lb. sym (cell_at (vec_items g.gaps) g.rows k b within lb)) few
+      (λ b past lb. no_gap (plan g).modes k b (G.gap k b) (g.links k b lb) past)
+
+  pub rows_lead : (k : ℕ) → k ≤ G.modes → list_all (list_any is_some) (take k (vec_items g.gaps)) ≡ all_lead_out G k
+  rows_lead zero h = refl
+  rows_lead (suc k) h =
+      let within : k < length (vec_items g.gaps) = omega (arith, tall g, g.gaps.ok.0, few) in
+      let row : List (Option ℕ) = get_or (vec_items g.gaps) k [] in
+      ap (λ n. list_all (list_any is_some) (take n (vec_items g.gaps))) (sym (add-one k)) ∙ list_all_more (list_any is_some) (vec_items g.gaps) k [] within
+      ∙ and_comm (list_all (list_any is_some) (take k (vec_items g.gaps))) (list_any is_some row)
+      ∙ ap (λ b. b && list_all (list_any is_some) (take k (vec_items g.gaps))) (row_at k (omega (arith, few))) ∙ ap (λ b. leads_out G k G.modes && b) (rows_lead k (omega arith))
 
 -- The test says what the law says.
 decides_leads : (G : Graph) (a : ℕ) → Decides (leads_out G a G.modes) ((b : ℕ) × (b < G.modes) × (is_some (G.gap a b) ≡ true))
@@ -162,16 +191,23 @@ whole_law p r e = Decides-at _ _ (ap is_ok e) (decides_whole p)
 pub gap_between : (p : Plan) (a b : ℕ) → a < length p.modes → b < length p.modes → (graph_of p).gap a b ≡ gap_at p a b
 gap_between p a b la lb = sym (cond-true _ _ _ (lt-ltb _ _ la) ∙ cond-true _ _ _ (lt-ltb _ _ lb))
 
--- What is read at the cell of two modes is their gap.
-pub gap_read : (g : ModeGraph) (a b : ℕ) (o : Option ℕ) → a < vec_len g.modes → b < vec_len g.modes → o ≡ get_or (vec_items g.gaps) (a * 16 + b) o → o ≡ (graph_of (plan g)).gap a b
-gap_read g a b o la lb e = get_or_read (vec_items g.gaps) (a * 16 + b) o (omega (arith, g.few, g.square, g.gaps.ok.0)) e None
+-- What is read at the second mode in the row of the first is their gap.
+pub gap_read : (g : ModeGraph) (a b : ℕ) (row : List (Option ℕ)) → a < 16 → b < 16 → row ≡ get_or (vec_items g.gaps) a row → get_or row b None ≡ (graph_of (plan g)).gap a b
+gap_read g a b row la lb e =
+    let within : a < length (vec_items g.gaps) = omega (arith, tall g, g.gaps.ok.0) in
+    ap (λ (r : List (Option ℕ)). get_or r b None) (get_or_read (vec_items g.gaps) a row within e []) ∙ sym (cell_at (vec_items g.gaps) g.rows a b within lb)
 
--- Past the last mode the cost is 0.
-pub no_cost : (p : Plan) (m : ℕ) → None ≡ mode_at p m → 0 ≡ (graph_of p).cost m
-no_cost p m e = elim (cases_lt m (length p.modes)) [
-  | inl h ↦ let z : ◌≡◌ {A = ℕ} 0 1 = cc (e, cond-true (ltb m (length p.modes)) (Some (get_or p.modes m blank)) None (lt-ltb _ _ h)) in absurd (omega arith)
-  | inr h ↦ sym (ap (λ (x : Mode). x.cost) (get_or_past p.modes m blank h))
-]
+-- A gap that is written stands at its cell, and each row is as long as it was.
+pub gap_written : (g : ModeGraph) (a b : ℕ) (row : List (Option ℕ)) (gap : Option ℕ) → a < 16 → b < 16 → row ≡ get_or (vec_items g.gaps) a row
+    → (cells (set (vec_items g.gaps) a (set row b gap)) ≡ set (cells (vec_items g.gaps)) (a * 16 + b) gap) × AllRows (set (vec_items g.gaps) a (set row b gap))
+gap_written g a b row gap la lb e =
+    let rows = vec_items g.gaps in
+    let within : a < length rows = omega (arith, tall g, g.gaps.ok.0) in
+    let read : row ≡ get_or rows a [] = get_or_read rows a row within e [] in
+    let long : length row ≡ 16 = ap length read ∙ g.rows a within in (
+      ap (λ r. cells (set rows a (set r b gap))) read ∙ set_cell rows g.rows a b gap within lb,
+      set_row rows g.rows a (set row b gap) (length-set row b gap ∙ long),
+    )
 
 -- A whole graph has a mode.
 pub whole_some : (p : Plan) → whole_answer p ≡ Ok tt → 1 ≤ length p.modes

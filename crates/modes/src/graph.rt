@@ -1,6 +1,6 @@
 //! The graph of modes of an angular task, as it is filled.
-ghost use Rattle.std.specs.Prelude.{◌≡◌, ◌≤◌, vec_len, vec_capacity};
-ghost use Rattle.modes.specs.Plans.{mode_numbers, link_numbers, RightModes, RightGaps};
+ghost use Rattle.std.specs.Prelude.{◌≡◌, ◌≤◌, length, vec_len, vec_capacity};
+ghost use Rattle.modes.specs.Plans.{mode_numbers, link_numbers, cells, AllRows, RightModes, RightGaps};
 
 use line::limits::{GAP, MODES, WINDOW};
 use line::refusal::Refusal;
@@ -28,12 +28,13 @@ impl Mode {
 #[derive(Drop)]
 pub struct ModeGraph {
     modes: Vec<Mode>,
-    gaps: Vec<Option<u32>>,
+    gaps: Vec<[Option<u32>; MODES]>,
     ghost few: { vec_len modes ≤ 16 },
     ghost room: { 16 ≤ vec_capacity modes },
-    ghost square: { vec_len gaps ≡ 256 },
+    ghost square: { length (cells gaps.items) ≡ 256 },
+    ghost rows: { AllRows gaps.items },
     ghost limits: { RightModes modes.items },
-    ghost links: { RightGaps modes.items gaps.items },
+    ghost links: { RightGaps modes.items (cells gaps.items) },
 }
 
 /// Whether the numbers are those of a mode.

@@ -1,24 +1,30 @@
 //! What may be asked of a graph of modes, and how it is filled.
-ghost use Rattle.std.specs.Prelude.{◌≡◌, ◌<◌, ◌≤◌, true, length, replicate, is_ok, is_err, None, Ok, vec_len, Decides, MatchResult};
+ghost use Rattle.std.specs.Prelude.{◌≡◌, ◌<◌, ◌≤◌, true, length, replicate, is_some, is_ok, is_err, None, Ok, Decides, MatchResult};
+ghost use Rattle.std.specs.List.{list_any};
 ghost use Rattle.line.specs.declared.refusal.Refusal.TheVariants.{NoMemory};
-ghost use Rattle.line.specs.Changes.{change_numbers, change_answer};
-ghost use Rattle.modes.specs.Plans.{graph_of, empty_plan, mode_at, gap_at, add_answer, after_add, link_answer, after_link, with_cost, with_link, changed_plan, right_gap, leads_out, all_lead_out, whole_answer, Whole};
+ghost use Rattle.line.specs.Changes.{change_answer};
+ghost use Rattle.modes.specs.Plans.{graph_of, empty_plan, mode_at, gap_at, add_answer, after_add, link_answer, after_link, with_cost, with_link, changed_plan, right_gap, all_lead_out, whole_answer, Whole};
 ghost use Rattle.modes.specs.Graphs.{plan};
 
 use super::{Mode, ModeGraph, check_link, check_mode};
 use line::change::Change;
 use line::limits::MODES;
+use line::ranged::Ranged;
 use line::refusal::Refusal;
 use std::alloc::Global;
 
-/// The cells of the table of gaps: a row of `MODES` for each mode.
-const CELLS: usize = 256;
-
-/// A table of gaps that links no modes.
-fn no_gaps(heap: Global) -> Result<Vec<Option<u32>>, Refusal>
-    ensures { MatchResult result (λ v. (v.items ≡ replicate 256 None) × (vec_len v ≡ 256)) (λ e. e ≡ NoMemory) }
+/// A table of gaps that links no modes: a row for each mode.
+fn no_gaps(heap: Global) -> Result<Vec<[Option<u32>; MODES]>, Refusal>
+    ensures { MatchResult result (λ v. v.items ≡ replicate 16 (replicate 16 None)) (λ e. e ≡ NoMemory) }
 {
-    Ok(Vec::from_slice(heap, &[None; CELLS])?)
+    Ok(Vec::from_slice(heap, &[[None; MODES]; MODES])?)
+}
+
+/// Whether a row has a gap.
+fn has_gap(row: &[Option<u32>; MODES]) -> bool
+    ensures { result ≡ list_any is_some row.now }
+{
+    row.iter().any(|gap| gap.is_some())
 }
 
 impl ModeGraph {
@@ -42,11 +48,7 @@ impl ModeGraph {
     pub fn mode(&self, m: usize) -> Option<Mode>
         ensures { result ≡ mode_at (plan self.now) m }
     {
-        if m < self.modes.len() {
-            Some(self.modes[m])
-        } else {
-            None
-        }
+        self.modes.get(m).copied()
     }
 
     /// The gap between two modes, if both are there and they are linked.
@@ -54,7 +56,7 @@ impl ModeGraph {
         ensures { result ≡ gap_at (plan self.now) from to }
     {
         if from < self.modes.len() && to < self.modes.len() {
-            self.gaps[from * MODES + to]
+            self.gaps[from][to]
         } else {
             None
         }
@@ -64,10 +66,7 @@ impl ModeGraph {
     pub fn cost(&self, m: usize) -> u32
         ensures { result ≡ (graph_of (plan self.now)).cost m }
     {
-        match self.mode(m) {
-            Some(mode) => mode.cost,
-            None => 0,
-        }
+        self.mode(m).map_or(0, |mode| mode.cost)
     }
 
     /// Adds a mode after the last one.
@@ -109,7 +108,7 @@ impl ModeGraph {
         requires right { right_gap (plan self.old).modes from to gap ≡ true }
         ensures { plan self.new ≡ with_link (plan self.old) from to gap }
     {
-        self.gaps[from * MODES + to] = gap;
+        self.gaps[from][to] = gap;
     }
 
     /// Writes the cost of a mode.
@@ -119,17 +118,15 @@ impl ModeGraph {
         requires less { cost ≤ (graph_of (plan self.old)).cost mode }
         ensures { plan self.new ≡ with_cost (plan self.old) mode cost }
     {
-        let deadline = self.modes[mode].deadline;
-        self.modes[mode] = Mode::new(cost, deadline);
+        self.modes[mode].cost = cost;
     }
 
     /// Makes a change that the graph may undergo.
-    fn change(&mut self, change: Change)
-        requires numbers { change_numbers change ≡ Ok tt }
-        requires may { change_answer (graph_of (plan self.old)) change ≡ Ok tt }
-        ensures { plan self.new ≡ changed_plan change (plan self.old) }
+    fn change(&mut self, change: Ranged)
+        requires { change_answer (graph_of (plan self.old)) change.change ≡ Ok tt }
+        ensures { plan self.new ≡ changed_plan change.change (plan self.old) }
     {
-        match change {
+        match change.change() {
             Change::Lower { mode, cost } => self.set_cost(mode, cost),
             Change::Widen { from, to, gap } => self.set_gap(from, to, Some(gap)),
             Change::Cut { from, to } => self.set_gap(from, to, None),
@@ -137,10 +134,9 @@ impl ModeGraph {
     }
 
     /// The graph after a change that it may undergo; one that was whole is whole.
-    pub fn changed(mut self, change: Change) -> ModeGraph
-        requires numbers { change_numbers change ≡ Ok tt }
-        requires may { change_answer (graph_of (plan self)) change ≡ Ok tt }
-        ensures plan { plan result ≡ changed_plan change (plan self) }
+    pub fn changed(mut self, change: Ranged) -> ModeGraph
+        requires { change_answer (graph_of (plan self)) change.change ≡ Ok tt }
+        ensures plan { plan result ≡ changed_plan change.change (plan self) }
         ensures whole { is_ok (whole_answer (plan self)) ≡ true → whole_answer (plan result) ≡ Ok tt }
     {
         self.change(change);
@@ -154,7 +150,7 @@ impl ModeGraph {
         if from >= self.modes.len() || to >= self.modes.len() {
             return Err(Refusal::NotThere);
         }
-        if self.gaps[from * MODES + to].is_some() {
+        if self.gap(from, to).is_some() {
             return Err(Refusal::Linked);
         }
         if gap < self.modes[from].deadline {
@@ -163,29 +159,11 @@ impl ModeGraph {
         Ok(())
     }
 
-    /// Whether a mode has a link out.
-    fn leads_out(&self, from: usize) -> bool
-        requires { from < length (plan self.now).modes }
-        ensures { result ≡ leads_out (graph_of (plan self.now)) from (length (plan self.now).modes) }
-    {
-        for to in 0..self.modes.len() {
-            if self.gaps[from * MODES + to].is_some() {
-                return true;
-            }
-        }
-        false
-    }
-
     /// Whether each mode has a link out.
     fn all_lead_out(&self) -> bool
         ensures { result ≡ all_lead_out (graph_of (plan self.now)) (length (plan self.now).modes) }
     {
-        for from in 0..self.modes.len() {
-            if !self.leads_out(from) {
-                return false;
-            }
-        }
-        true
+        self.gaps[..self.modes.len()].iter().all(|row| has_gap(row))
     }
 
     /// Whether there is a mode and each has a link out.

@@ -8,4 +8,4 @@ pub returns : goal.returns
 returns c =
     let g = c.args.self in
     let e = c.change.ensures in
-    record { plan = e; whole = λ h. ap whole_answer e ∙ changed_whole (plan g) c.args.change (omega (arith, g.few, g.modes.ok.0)) c.requires.may h }
+    record { plan = e; whole = λ h. ap whole_answer e ∙ changed_whole (plan g) c.args.change.change (omega (arith, g.few, g.modes.ok.0)) c.requires h }
