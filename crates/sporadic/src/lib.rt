@@ -2,7 +2,7 @@
 #![tactic(auto)]
 
 ghost use Rattle.std.specs.Prelude.{◌≡◌, ◌≤◌, ◌++◌, length, drop, replicate, Ok};
-ghost use Rattle.line.specs.Changes.{change_numbers, change_answer};
+ghost use Rattle.line.specs.Changes.{change_answer};
 ghost use Rattle.line.specs.Answers.{MadeBy};
 ghost use Rattle.sporadic.specs.Tasks.{releases, sporadic_task, sporadic_answer, changed_cost, changed_period};
 ghost use Rattle.line.specs.Meaning.{sole};
@@ -12,6 +12,7 @@ ghost use Rattle.sporadic.specs.Sporadics.{numbers_laws};
 use line::change::Change;
 use line::joined::may_show;
 use line::limits::{GAP, WINDOW};
+use line::ranged::Ranged;
 use line::refusal::Refusal;
 use line::{ExactLine, Line};
 
@@ -86,21 +87,16 @@ impl Sporadic {
     }
 
     /// The task after a change that it may undergo. Its only link is never struck out.
-    pub fn changed(self, change: Change) -> Sporadic
-        requires numbers { change_numbers change ≡ Ok tt }
-        requires may { change_answer (sporadic_task self.cost self.period self.deadline).graph change ≡ Ok tt }
-        ensures cost { result.cost ≡ changed_cost change self.cost }
-        ensures period { result.period ≡ changed_period change self.period }
+    pub fn changed(self, change: Ranged) -> Sporadic
+        requires { change_answer (sporadic_task self.cost self.period self.deadline).graph change.change ≡ Ok tt }
+        ensures cost { result.cost ≡ changed_cost change.change self.cost }
+        ensures period { result.period ≡ changed_period change.change self.period }
         ensures deadline { result.deadline ≡ self.deadline }
     {
-        let (cost, period) = match change {
-            Change::Lower { mode: _, cost } => (cost, self.period),
-            Change::Widen {
-                from: _,
-                to: _,
-                gap,
-            } => (self.cost, gap),
-            Change::Cut { from: _, to: _ } => (self.cost, self.period),
+        let (cost, period) = match change.change() {
+            Change::Lower { cost, .. } => (cost, self.period),
+            Change::Widen { gap, .. } => (self.cost, gap),
+            Change::Cut { .. } => (self.cost, self.period),
         };
         Sporadic {
             cost,
@@ -114,7 +110,7 @@ impl Sporadic {
         requires { window ≤ 1000 }
         ensures { result ≡ releases window self.now.period }
     {
-        (window + (self.period - 1)) / self.period
+        window.div_ceil(self.period)
     }
 }
 
@@ -123,9 +119,7 @@ fn write_jobs(list: &mut [u8], jobs: usize)
     requires { jobs ≤ length list.old }
     ensures { list.new ≡ replicate jobs 0 ++ drop jobs list.old }
 {
-    for k in 0..jobs {
-        list[k] = 0;
-    }
+    list[..jobs].fill(0);
 }
 
 impl Line for Sporadic {

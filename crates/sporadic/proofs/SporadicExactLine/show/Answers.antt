@@ -1,13 +1,6 @@
 use Rattle.std.proofs.Common.{length, sym, refl, arith}
-use Rattle.sporadic.specs.Sporadics.{show_passed, releases_most, even_shown}
+use Rattle.sporadic.specs.Sporadics.{show_passed, even_shown}
 use Rattle.sporadic.proofs.SporadicExactLine.show.Goals as goal
-
-pub write_jobs-requires : goal.write_jobs-requires
-write_jobs-requires c =
-    let s = c.args.self.now in
-    let ok = show_passed 1 c.args.place c.args.window (length c.args.sheet.now) (length c.args.list.now) _ c.in_ok-may_show.ensures in
-    let few = releases_most c.args.window s.period (omega (arith, s.some, s.fits, s.first)) in
-    omega (arith, ok.1, ok.3, few, c.releases-jobs.ensures)
 
 pub returns : goal.returns
 returns c =
