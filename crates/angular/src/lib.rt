@@ -8,7 +8,7 @@
 
 ghost use Rattle.std.specs.Prelude.{◌≡◌, ℕ, ◌<◌, ◌≤◌, true, length, replicate, is_ok, Ok, vec_len, MatchResult, slice_index};
 ghost use Rattle.line.specs.declared.refusal.Refusal.TheVariants.{NoMemory};
-ghost use Rattle.line.specs.Changes.{change_numbers, change_answer};
+ghost use Rattle.line.specs.Changes.{change_answer};
 ghost use Rattle.modes.specs.Plans.{graph_of, changed_plan, whole_answer};
 ghost use Rattle.angular.specs.Greatest.{Most};
 ghost use Rattle.angular.specs.Best.{most_of};
@@ -22,9 +22,9 @@ ghost use Rattle.angular.specs.Laws.{plan_laws};
 
 use crate::sheet::fill;
 use crate::show::{write_row, write_walk};
-use line::change::Change;
 use line::joined::may_show;
 use line::limits::{WINDOW, WINDOWS};
+use line::ranged::Ranged;
 use line::refusal::Refusal;
 use line::{ExactLine, Line};
 use modes::graph::ModeGraph;
@@ -68,13 +68,12 @@ impl Angular {
     }
 
     /// The task after a change that it may undergo; the sheet is filled for it.
-    pub fn changed(self, change: Change, sheet: &mut [u32]) -> Angular
-        requires numbers { change_numbers change ≡ Ok tt }
-        requires may { change_answer (graph_of (plan self.graph)) change ≡ Ok tt }
+    pub fn changed(self, change: Ranged, sheet: &mut [u32]) -> Angular
+        requires may { change_answer (graph_of (plan self.graph)) change.change ≡ Ok tt }
         requires room { 16016 ≤ length sheet.old }
-        ensures same { plan result.graph ≡ changed_plan change (plan self.graph) }
-        ensures filled { Filled (graph_of (changed_plan change (plan self.graph))) sheet.new }
-        ensures kept { Kept (length (changed_plan change (plan self.graph)).modes) sheet.old sheet.new }
+        ensures same { plan result.graph ≡ changed_plan change.change (plan self.graph) }
+        ensures filled { Filled (graph_of (changed_plan change.change (plan self.graph))) sheet.new }
+        ensures kept { Kept (length (changed_plan change.change (plan self.graph)).modes) sheet.old sheet.new }
     {
         let Angular { graph, row } = self;
         Angular::new(graph.changed(change), row, sheet)
