@@ -1,14 +1,15 @@
 -- The jobs of the places as a list. Assumes nothing.
-use Rattle.std.proofs.Common.{◌≡◌, ℕ, zero, suc, ◌+◌, ◌-◌, ◌<◌, ◌≤◌, Bool, true, false, cond, ltb, List, [], ◌∷◌, length, set, Some, None, Option, sym, refl, ap, ◌∙◌, subst, inl, inr, arith}
-use Rattle.std.proofs.lemmas.Bool.{cases_lt, cases_eq, ltb-true, ltb-false}
+use Rattle.std.proofs.Common.{◌≡◌, ℕ, zero, suc, ◌+◌, ◌-◌, ◌<◌, ◌≤◌, Bool, true, false, cond, ltb, List, [], ◌∷◌, length, set, fold, MatchOption, Some, None, Option, sym, refl, ap, ◌∙◌, subst, inl, inr, zero-add, arith}
+use Rattle.std.proofs.lemmas.Bool.{cases_lt, cases_eq, ltb-true, ltb-false, lt-ltb, le-ltb}
 use Rattle.std.proofs.lemmas.List.{set-get_or, get_or-set_same, get_or-set_other, get_or_past, set_past}
+use Rattle.std.specs.List.{enumerate_from}
 use Rattle.std.proofs.lemmas.Bool.Decides.{nat_tests}
 use Rattle.line.specs.Meaning.{Meaning}
 use Rattle.run.specs.declared.Job.{Job}
 use Rattle.run.specs.declared.Late.{Late}
 use Rattle.run.specs.Course.{Course, job_at, left_of}
-use Rattle.run.specs.Ticks.{idle_above, served, noted, late_in, first_late}
-use Rattle.run.specs.Steps.{undue, undue_all, given_at, worked_at, ran_on}
+use Rattle.run.specs.Ticks.{idle_above, served, late_in, first_late}
+use Rattle.run.specs.Steps.{busy, undue, undue_all}
 
 -- The parts of a run, one by one.
 pub same_course : (c d : ℕ) (j k : List (Option Job)) (w v : List ℕ) (l n : Option Late) → c ≡ d → j ≡ k → w ≡ v → l ≡ n →
@@ -20,10 +21,6 @@ idle_here o os h = grind (arith, nat_tests)
 
 pub idle_skip : (o : Option Job) (os : List (Option Job)) → left_of o ≡ 0 → idle_above (o ∷ os) ≡ suc (idle_above os)
 idle_skip o os h = grind (arith, nat_tests)
-
-idle_within : (os : List (Option Job)) → idle_above os ≤ length os
-idle_within [] = omega arith
-idle_within (o ∷ os) = let ih = idle_within os in grind (arith, nat_tests)
 
 -- Above the place that is served no work is left.
 pub idle_none : (os : List (Option Job)) (q : ℕ) → q < idle_above os → left_of (job_at os q) ≡ 0
@@ -58,16 +55,12 @@ idle_is os p some none =
       | inr h ↦ elim (cases_lt p (idle_above os)) [ inl k ↦ let z = idle_none os p k in absurd (omega arith) | inr k ↦ omega arith ]
     ]
 
--- Where only places without work are passed, the next one is served, or there is none.
-pub idle_found : (os : List (Option Job)) (p : ℕ) → p ≤ length os → ((q : ℕ) → q < p → left_of (job_at os q) ≡ 0) → (p < length os → 0 < left_of (job_at os p)) → p ≡ idle_above os
-idle_found os p within none some =
-    elim (cases_lt p (length os)) [
-      | inl h ↦ sym (idle_is os p (some h) none)
-      | inr h ↦ elim (cases_lt (idle_above os) (length os)) [
-        | inl k ↦ let a = idle_some os k in let z = none (idle_above os) (omega arith) in absurd (omega arith)
-        | inr k ↦ let w = idle_within os in omega arith
-      ]
-    ]
+-- Where only places without work stand before the one found, or where none is found, it is the one that is served.
+pub busy_found : (os : List (Option Job)) (r : Option ℕ) →
+    MatchOption r ((k : ℕ) → k < length os → left_of (job_at os k) ≡ 0) (λ i. (i < length os) × (0 < left_of (job_at os i)) × ((k : ℕ) → k < i → left_of (job_at os k) ≡ 0)) →
+    r ≡ busy os
+busy_found os None none = elim (cases_lt (idle_above os) (length os)) [ inl h ↦ let a = idle_some os h in let z = none (idle_above os) h in absurd (omega arith) | inr h ↦ rw le-ltb ]
+busy_found os (Some i) (h, some, none) = let e = idle_is os i some none in rw (e, lt-ltb)
 
 -- With some work still left there, the same place is served.
 pub idle_kept : (os : List (Option Job)) (o : Option Job) → (idle_above os < length os → 0 < left_of o) → idle_above (set os (idle_above os) o) ≡ idle_above os
@@ -126,28 +119,33 @@ late_none m now p (o ∷ os) h =
     let rest = late_none m now (suc p) os (λ q. subst (λ k. late_in m now k (job_at os q) ≡ None) {x = p + suc q} {y = suc p + q} (omega arith) (h (suc q))) in
     rw (here, rest)
 
-pub late_next : (m : Meaning) (now p : ℕ) (o : Option Job) (os : List (Option Job)) → late_in m now p o ≡ None → first_late m now p (o ∷ os) ≡ first_late m now (p + 1) os
+late_next : (m : Meaning) (now p : ℕ) (o : Option Job) (os : List (Option Job)) → late_in m now p o ≡ None → first_late m now p (o ∷ os) ≡ first_late m now (p + 1) os
 late_next m now p o os e = rw e (ap (λ k. first_late m now k os) {x = suc p} {y = p + 1} (omega arith))
 
-pub late_here : (m : Meaning) (now p : ℕ) (o : Option Job) (os : List (Option Job)) (l : Late) → late_in m now p o ≡ Some l → first_late m now p (o ∷ os) ≡ Some l
+late_here : (m : Meaning) (now p : ℕ) (o : Option Job) (os : List (Option Job)) (l : Late) → late_in m now p o ≡ Some l → first_late m now p (o ∷ os) ≡ Some l
 late_here m now p o os l e = rw e
 
-pub undue_next : (m : Meaning) (now p : ℕ) (o : Option Job) (os : List (Option Job)) (n : ℕ) → undue_all m now p (o ∷ os) n ≡ undue_all m now (p + 1) os (undue m now p o n)
+-- The first place that is late is the highest one.
+late_first : (m : Meaning) (now p : ℕ) (os : List (Option Job)) (i : ℕ) (l : Late) → late_in m now (p + i) (job_at os i) ≡ Some l → ((k : ℕ) → k < i → late_in m now (p + k) (job_at os k) ≡ None) → first_late m now p os ≡ Some l
+late_first m now p [] i l e none = cc
+late_first m now p (o ∷ os) zero l e none = late_here m now p o os l (subst (λ k. late_in m now k o ≡ Some l) {x = p + 0} {y = p} (omega arith) e)
+late_first m now p (o ∷ os) (suc i) l e none =
+    late_next m now p o os (subst (λ k. late_in m now k o ≡ None) {x = p + 0} {y = p} (omega arith) (none 0 (omega arith)))
+    ∙ late_first m now (p + 1) os i l (subst (λ k. late_in m now k (job_at os i) ≡ Some l) {x = p + suc i} {y = p + 1 + i} (omega arith) e)
+    (λ k h. subst (λ q. late_in m now q (job_at os k) ≡ None) {x = p + suc k} {y = p + 1 + k} (omega arith) (none (suc k) (omega arith)))
+
+-- What is found of the places in turn.
+pub late_found : (m : Meaning) (now : ℕ) (os : List (Option Job)) (r : Option Late) →
+    MatchOption r ((k : ℕ) → k < length os → late_in m now k (job_at os k) ≡ None) (λ l. (i : ℕ) × (i < length os) × (late_in m now i (job_at os i) ≡ Some l) × ((k : ℕ) → k < i → late_in m now k (job_at os k) ≡ None)) →
+    r ≡ first_late m now 0 os
+late_found m now os None none =
+    sym (late_none m now 0 os (λ q.
+    rw (zero-add q) (elim (cases_lt q (length os)) [ inl h ↦ none q h | inr h ↦ ap (late_in m now q) (job_past os q h) ])))
+late_found m now os (Some l) (i, h, e, none) = sym (late_first m now 0 os i l (rw (zero-add i) e) (λ k b. rw (zero-add k) (none k b)))
+
+undue_next : (m : Meaning) (now p : ℕ) (o : Option Job) (os : List (Option Job)) (n : ℕ) → undue_all m now p (o ∷ os) n ≡ undue_all m now (p + 1) os (undue m now p o n)
 undue_next m now p o os n = ap (λ k. undue_all m now k os (undue m now p o n)) {x = suc p} {y = p + 1} (omega arith)
 
--- A place without a job has nothing to give units to.
-give_nobody : (os : List (Option Job)) (p n : ℕ) → job_at os p ≡ None → os ≡ set os p (served n (job_at os p))
-give_nobody os p n e = sym (ap (λ o. set os p (served n o)) e ∙ ap (set os p) (sym e) ∙ set-get_or os p None)
-
-pub given_none : (s : Course) (p n : ℕ) → job_at s.jobs p ≡ None → s ≡ given_at p n s
-given_none s p n e = same_course s.clock s.clock s.jobs (given_at p n s).jobs s.worst s.worst s.late s.late refl (give_nobody s.jobs p n e) refl refl
-
-pub worked_none : (s : Course) (p : ℕ) → job_at s.jobs p ≡ None → s ≡ worked_at p s
-worked_none s p e = same_course s.clock s.clock s.jobs (worked_at p s).jobs s.worst (worked_at p s).worst s.late s.late refl (give_nobody s.jobs p 1 e) (sym (ap (λ o. noted s.clock p o s.worst) e)) refl
-
--- The run with another clock.
-abbrev pub at_clock : ℕ → Course → Course
-at_clock n s = record { clock = n; jobs = s.jobs; worst = s.worst; late = s.late }
-
-pub ran_idle : (s : Course) (n : ℕ) → length s.jobs ≤ idle_above s.jobs → at_clock (s.clock + n) s ≡ ran_on n s
-ran_idle s n h = given_none (at_clock (s.clock + n) s) (idle_above s.jobs) n (job_past s.jobs (idle_above s.jobs) h)
+pub undue_fold : (m : Meaning) (now p : ℕ) (os : List (Option Job)) (n : ℕ) → fold (λ k q. undue m now q.0 q.1 k) n (enumerate_from p os) ≡ undue_all m now p os n
+undue_fold m now p [] n = refl
+undue_fold m now p (o ∷ os) n = undue_fold m now (p + 1) os (undue m now p o n) ∙ sym (undue_next m now p o os n)

@@ -1,9 +1,13 @@
 -- Many ticks in one step. Assumes nothing.
-use Rattle.std.specs.Prelude.{◌≡◌, ℕ, suc, ◌+◌, ◌-◌, ◌<◌, ◌≤◌, cond, ◌&&◌, List, [], ◌∷◌, Some, None, Option, nat_lt, slice_set}
+use Rattle.std.specs.Prelude.{◌≡◌, ℕ, suc, ◌+◌, ◌-◌, ◌<◌, ◌≤◌, cond, ◌&&◌, List, [], ◌∷◌, length, Some, None, Option, nat_lt, slice_set}
 use Rattle.line.specs.Meaning.{Meaning}
 use Rattle.run.specs.declared.Job.{Job}
 use Rattle.run.specs.Course.{Course, job_at, left_of}
 use Rattle.run.specs.Ticks.{idle_above, served, raised, due_at, noted, after_ticks}
+
+-- The highest place with work left, if any.
+abbrev pub busy : List (Option Job) → Option ℕ
+busy os = cond (nat_lt (idle_above os) (length os)) (Some (idle_above os)) None
 
 abbrev pub lesser : ℕ → ℕ → ℕ
 lesser a b = cond (nat_lt a b) a b

@@ -11,6 +11,7 @@ ghost use Rattle.run.specs.Course.{course, fresh};
 ghost use Rattle.run.specs.Calls.{release_answer, after_release, may_advance, advance_answer, after_advance, worst_answer};
 ghost use Rattle.run.specs.Rules.{TickByRules, RunsByRules};
 
+use crate::due::Moment;
 use line::Line;
 use line::limits::{MODES, PLACES, WINDOW};
 use line::refusal::Refusal;
@@ -69,7 +70,12 @@ impl Play {
         ensures tick { TickByRules }
         ensures runs { RunsByRules }
     {
-        Play::blank()
+        Play {
+            clock: 0,
+            jobs: [None; PLACES],
+            worst: [0; TIMES],
+            late: None,
+        }
     }
 
     /// The clock: how many ticks have passed.
@@ -92,7 +98,7 @@ impl Play {
     {
         self.may_release(line, place, mode, cost)?;
         self.jobs[place] = Some(Job {
-            mode: mode,
+            mode,
             release: self.clock,
             left: cost,
         });
@@ -126,15 +132,14 @@ impl Play {
         Ok(self.worst[place * MODES + mode])
     }
 
-    /// The fields of a run before anything has happened.
-    fn blank() -> Play
-        ensures { course result ≡ fresh }
+    /// A line at the present clock.
+    fn at<'a, L: Line>(&self, line: &'a L) -> Moment<'a, L>
+        ensures line { result.line.now ≡ line.now }
+        ensures clock { result.clock ≡ (course self.now).clock }
     {
-        Play {
-            clock: 0,
-            jobs: [None; PLACES],
-            worst: [0; TIMES],
-            late: None,
+        Moment {
+            line,
+            clock: self.clock,
         }
     }
 
@@ -157,7 +162,7 @@ impl Play {
         if cost > line.cost(place, mode) {
             return Err(Refusal::CostAboveMode);
         }
-        if !due::ready(line, self.clock, place, mode, self.jobs[place]) {
+        if !self.at(line).ready(place, mode, self.jobs[place]) {
             return Err(Refusal::NotYet);
         }
         if self.late.is_some() {
@@ -176,7 +181,7 @@ impl Play {
         if self.late.is_some() {
             return Err(Refusal::EndedLate);
         }
-        if self.clock as u64 + ticks as u64 > CLOCK as u64 {
+        if u64::from(self.clock) + u64::from(ticks) > u64::from(CLOCK) {
             return Err(Refusal::PastClock);
         }
         Ok(())

@@ -6,7 +6,7 @@ ghost use Rattle.run.specs.Ticks.{idle_above, ticked, after_ticks};
 ghost use Rattle.run.specs.Steps.{calm, given_at, raised_at, ran_on, worked_at, Strides};
 
 use crate::Play;
-use crate::due::{first_late, idle_above, served, undue_all, unfinished};
+use crate::due::{busy, served, unfinished};
 use line::Line;
 use line::limits::{MODES, PLACES};
 
@@ -44,13 +44,8 @@ impl Play {
     fn calm<L: Line>(&self, line: &L, limit: u32) -> u32
         ensures { result ≡ calm (L.meaning line.now) (course self.now) limit }
     {
-        let place = idle_above(&self.jobs);
-        let slot = if place < PLACES {
-            self.jobs[place]
-        } else {
-            None
-        };
-        undue_all(line, self.clock, &self.jobs, unfinished(slot, limit))
+        let slot = busy(&self.jobs).and_then(|place| self.jobs[place]);
+        self.at(line).undue_all(&self.jobs, unfinished(slot, limit))
     }
 
     /// Many ticks at once, in which one job runs on, or none.
@@ -58,9 +53,8 @@ impl Play {
         requires { (course self.old).clock + ticks < 4294967296 }
         ensures { course self.new ≡ ran_on ticks (course self.old) }
     {
-        let place = idle_above(&self.jobs);
         self.clock += ticks;
-        if place < PLACES {
+        if let Some(place) = busy(&self.jobs) {
             self.give(place, ticks);
         }
     }
@@ -72,15 +66,14 @@ impl Play {
     {
         self.clock += 1;
         self.serve();
-        self.late = first_late(line, self.clock, &self.jobs);
+        self.late = self.at(line).first_late(&self.jobs);
     }
 
     /// Serves the highest place with work left, if any, in the tick that ends at the clock.
     fn serve(&mut self)
         ensures { course self.new ≡ worked_at (idle_above (course self.old).jobs) (course self.old) }
     {
-        let place = idle_above(&self.jobs);
-        if place < PLACES {
+        if let Some(place) = busy(&self.jobs) {
             self.work_at(place);
         }
     }
