@@ -26,6 +26,7 @@ pub const CLOCK: u32 = 1000000;
 pub const ADVANCE: u32 = 1000;
 
 /// The longest times: one for each place and mode.
+// One list of cells: of rows in an array a proof does not know that each has `MODES` cells.
 const TIMES: usize = 256;
 
 /// The last job released at a place; it stays, with no work left, when it has finished.
