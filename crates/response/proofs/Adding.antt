@@ -1,6 +1,6 @@
 -- The row of sums, cell by cell, and the search against it. Assumes nothing.
-use Rattle.std.proofs.Common.{◌≡◌, ℕ, ◌+◌, ◌<◌, ◌≤◌, List, length, get_or, set, replicate, Some, None, Option, ap, ◌∙◌, arith, below_more}
-use Rattle.std.proofs.lemmas.List.{get_or-set_same, get_or-set_other, get_or-replicate, length-replicate}
+use Rattle.std.proofs.Common.{◌≡◌, ℕ, ◌+◌, ◌≤◌, List, length, get_or, replicate, Some, None, Option, ap, ◌∙◌, arith}
+use Rattle.std.proofs.lemmas.List.{get_or-replicate, length-replicate}
 use Rattle.line.specs.Meaning.{Meaning, task_at, cost_in, deadline_in}
 use Rattle.line.specs.Lawful.{Lawful}
 use Rattle.line.proofs.Facts.{deadline_at}
@@ -20,19 +20,12 @@ module _ (m : Meaning) (p q w : ℕ) (s : List ℕ) (next : p + 1 ≡ q) (old : 
   sum_here : added_at m p w (get_or s w 0) ≡ above m w q
   sum_here = omega (arith, old, above_next m w p, ap (above m w) next)
 
-  pub sum_fits : Lawful m → q < m.count → added_at m p w (get_or s w 0) ≤ 16000000
-  sum_fits laws lt = omega (arith, sum_here, above_le m laws w q, laws.few)
-
-  pub sums_more : (is : List ℕ) → is ≡ set s w (added_at m p w (get_or s w 0)) → w < length s → ((k : ℕ) → k < w → get_or s k 0 ≡ above m k q) → (k : ℕ) → k < w + 1 → get_or is k 0 ≡ above m k q
-  sums_more is e lt below =
-      below_more _ _ (λ k h. ap (λ x. get_or x k 0) e ∙ get_or-set_other s w k _ 0 (omega arith) ∙ below k h) (ap (λ x. get_or x w 0) e ∙ get_or-set_same s w _ 0 lt ∙ sum_here)
-
-  pub sums_left : (is : List ℕ) → is ≡ set s w (added_at m p w (get_or s w 0)) → ((k : ℕ) → w ≤ k → k ≤ 1000 → get_or s k 0 ≡ above m k p) → (k : ℕ) → w + 1 ≤ k → k ≤ 1000 → get_or is k 0 ≡ above m k p
-  sums_left is e rest k a b = ap (λ x. get_or x k 0) e ∙ get_or-set_other s w k _ 0 (omega arith) ∙ rest k (omega arith) b
+  pub sum_fits : Lawful m → q ≤ 16 → added_at m p w (get_or s w 0) ≤ 16000000
+  sum_fits laws le = omega (arith, sum_here, above_le m laws w q)
 
 -- No cell of the row is large.
-pub sums_light : (m : Meaning) → Lawful m → (p : ℕ) → p < m.count → (s : List ℕ) → Sums m p s → (w : ℕ) → w ≤ 1000 → get_or s w 0 ≤ 16000000
-sums_light m laws p lt s row w h = omega (arith, row.each w h, above_le m laws w p, laws.few)
+pub sums_light : (m : Meaning) → Lawful m → (p : ℕ) → p ≤ 16 → (s : List ℕ) → Sums m p s → (w : ℕ) → w ≤ 1000 → get_or s w 0 ≤ 16000000
+sums_light m laws p le s row w h = omega (arith, row.each w h, above_le m laws w p)
 
 -- What is least against the row is the mode's bound.
 module _ (m : Meaning) (laws : Lawful m) (p i : ℕ) (s : List ℕ) (cost deadline : ℕ) (row : Sums m p s) (ec : cost ≡ cost_in (task_at m p) i) (ed : deadline ≡ deadline_in (task_at m p) i) where

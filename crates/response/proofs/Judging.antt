@@ -87,6 +87,17 @@ module _ (m : Meaning) where
           let y : i ≡ j = ap (λ o. (unwrap_or {T = ℕ × ℕ} o (p, i)).1) e in
           record { from = omega arith; to = omega arith; here = subst (λ k. over_in m k ≡ Some j) x (h ∙ ap Some y); before = λ r a b. absurd (omega arith) }
 
+-- The verdict is the one that the first place and mode without a bound mean.
+pub verdict_at : (m : Meaning) → verdict_of m ≡ as_verdict (first_over m)
+unfolding verdict_of
+verdict_at m = refl
+
+pub verdict_over : (m : Meaning) (p i : ℕ) → first_over m ≡ Some (p, i) → Over p i ≡ verdict_of m
+verdict_over m p i e = sym (verdict_at m ∙ ap as_verdict e)
+
+pub verdict_fits : (m : Meaning) (n p : ℕ) → n ≡ 0 → first_over m ≡ over_from m n p → Fits ≡ verdict_of m
+verdict_fits m n p z e = sym (verdict_at m ∙ ap as_verdict (e ∙ ap (λ k. over_from m k p) z))
+
 -- One place after another: what a loop over the places needs.
 pub line_start : (m : Meaning) → first_over m ≡ over_from m (m.count - 0) 0
 unfolding first_over

@@ -16,11 +16,10 @@ use Rattle.run.specs.Rules.{Whole, Finishes, Misses, LateNow, Tick, MayRelease}
 use Rattle.run.proofs.Slots.{idle_none, idle_some, given_other, given_cases, left_served}
 use Rattle.run.proofs.Ruling.{decide_end, tick_ruled}
 use Rattle.run.proofs.Running.{may_release, whole_tick, whole_release, whole_fresh, none_there}
-use Rattle.response.specs.declared.Verdict.{Verdict}
 use Rattle.response.specs.declared.Verdict.TheVariants.{Fits}
 use Rattle.response.specs.Bounds.{Bound}
 use Rattle.response.specs.Judgements.{Mode}
-use Rattle.response.specs.Verdicts.{first_over, as_verdict, verdict_of}
+use Rattle.response.specs.Verdicts.{verdict_of}
 use Rattle.response.specs.Safety.{NeverLate}
 use Rattle.response.proofs.Bounding.{bound_found, found_bound}
 use Rattle.response.proofs.Judging.{fits_bounds}
@@ -281,7 +280,3 @@ module _ (m : Meaning) (laws : Lawful m) (fits : AllBounds m) where
 -- The guarantee: over a line that fits no run is ever late, and no job takes longer than the bound of its mode.
 pub never_late : (m : Meaning) → Lawful m → verdict_of m ≡ Fits → NeverLate m
 never_late m laws e = safe_calls m laws (λ p i lp li. let b = fits_bounds m e p i (record { place = lp; mode = li }) in (b.0, bound_found m p i b.0 b.1))
-
-pub safe_verdict : (m : Meaning) → Lawful m → (o : Option (ℕ × ℕ)) (v : Verdict ℕ) → o ≡ first_over m → v ≡ as_verdict o → v ≡ Fits → NeverLate m
-unfolding verdict_of
-safe_verdict m laws o v over names fit = never_late m laws (ap as_verdict (sym over) ∙ sym names ∙ fit)

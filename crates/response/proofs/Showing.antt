@@ -16,7 +16,7 @@ use Rattle.response.specs.Judgements.{Mode, Before, Holds, Judged}
 use Rattle.response.specs.Rows.{cleared_to, bound_at, Shows, reached, stop_cell, reached_cell}
 use Rattle.response.proofs.Firsts.{first_end}
 use Rattle.response.proofs.Bounding.{bound_found, none_found}
-use Rattle.response.proofs.Judging.{Bounded, bounded_not, fits_bounds, over_line}
+use Rattle.response.proofs.Judging.{verdict_at, Bounded, bounded_not, fits_bounds, over_line}
 
 -- Where the line has no such mode, there is no bound.
 pub mode_past : (m : Meaning) (p i : ℕ) → modes_in (task_at m p) ≤ i → bound_of m p i ≡ None
@@ -221,14 +221,11 @@ abbrev pub Done : Meaning → List ℕ → List ℕ → Verdict ℕ → Type 0
 Done m s is v = (Ok v ≡ judge_answer m (length s)) × (is ≡ judged_cells m s) × Judged m v is
 
 pub done : (m : Meaning) → Lawful m → (s start is : List ℕ) (v : Verdict ℕ) → 256 ≤ length s → length is ≡ length s → start ≡ cleared_to 256 s
-    → (o : Option (ℕ × ℕ)) → o ≡ first_over m → v ≡ as_verdict o → Shows m 0 (reached_cell m) start is → Done m s is v
-unfolding verdict_of
-done m laws s start is v room long clear o over names shows =
-    let e : verdict_of m ≡ as_verdict o = ap as_verdict (sym over) in
-    let verdict : verdict_of m ≡ v = e ∙ sym names in
-    let at = subst (λ x. Shows m 0 (stop_cell m o) x is) clear (subst (λ x. Shows m 0 (stop_cell m x) start is) (sym over) shows) in
-    let shown = cells_done m laws s is room long o e at in (
-      sym (cond-false (ltb (length s) 256) (Err TooShort) (Ok (verdict_of m)) (le-ltb _ _ room) ∙ ap Ok verdict),
+    → v ≡ verdict_of m → Shows m 0 (reached_cell m) start is → Done m s is v
+done m laws s start is v room long clear found shows =
+    let at = subst (λ x. Shows m 0 (reached_cell m) x is) clear shows in
+    let shown = cells_done m laws s is room long (first_over m) (verdict_at m) at in (
+      sym (cond-false (ltb (length s) 256) (Err TooShort) (Ok (verdict_of m)) (le-ltb _ _ room) ∙ ap Ok (sym found)),
       shown ∙ sym (cond-false (ltb (length s) 256) s (bound_cells m ++ drop 256 s) (le-ltb _ _ room)),
-      subst (Judged m v) (sym shown) (judged m laws (drop 256 s) v verdict),
+      subst (Judged m v) (sym shown) (judged m laws (drop 256 s) v (sym found)),
     )

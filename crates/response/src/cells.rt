@@ -10,9 +10,7 @@ pub fn clear(cells: &mut [u32])
     requires { 256 ≤ length cells.old }
     ensures { cells.new ≡ cleared_to 256 cells.old }
 {
-    for n in 0..CELLS {
-        cells[n] = 0;
-    }
+    cells[..CELLS].fill(0);
 }
 
 /// Shows a mode's bound in its cell.

@@ -11,7 +11,7 @@
 #![tactic(auto)]
 
 ghost use Rattle.std.specs.Prelude.{◌≡◌, length, IfOk, OnOk, Some};
-ghost use Rattle.response.specs.Verdicts.{as_verdict, judge_answer, judged_cells};
+ghost use Rattle.response.specs.Verdicts.{judge_answer, judged_cells};
 ghost use Rattle.response.specs.Judgements.{Judged};
 ghost use Rattle.response.specs.Easing.{EasesBelow};
 ghost use Rattle.response.specs.Safety.{NeverLate};
@@ -55,16 +55,6 @@ impl fmt::Display for Verdict<u32> {
     }
 }
 
-/// The verdict, given the first place and mode without a bound.
-fn verdict_at(over: Option<(usize, usize)>) -> Verdict<usize>
-    ensures { result ≡ as_verdict over }
-{
-    match over {
-        Some((task, mode)) => Verdict::Over { task, mode },
-        None => Verdict::Fits,
-    }
-}
-
 /// Judges a line, and shows the bound of each mode that comes before the verdict falls.
 ///
 /// Of the first 256 cells, cell place × 16 + mode gets the mode's bound, and every other one 0;
@@ -81,6 +71,5 @@ pub fn judge<L: Line>(line: &L, cells: &mut [u32]) -> Result<Verdict<usize>, Ref
         return Err(Refusal::TooShort);
     }
     cells::clear(cells);
-    let over = places::first_over(line, cells);
-    Ok(verdict_at(over))
+    Ok(places::judge_places(line, cells))
 }

@@ -1,51 +1,46 @@
 //! The places of a line, judged one after another against the row of sums.
 ghost use Rattle.std.specs.Prelude.{◌≡◌, ℕ, ◌+◌, ◌*◌, ◌<◌, ◌≤◌, length, slice_index};
-ghost use Rattle.response.specs.Verdicts.{over_in, first_over};
-ghost use Rattle.response.specs.Rows.{Sums, Shows, reached, reached_cell};
+ghost use Rattle.response.specs.Verdicts.{over_in, verdict_of};
+ghost use Rattle.response.specs.Rows.{Shows, reached, reached_cell};
 
+use crate::Verdict;
 use crate::cells::show;
-use crate::rows::add_above;
-use crate::search::bound;
+use crate::rows::Row;
 use line::Line;
-use line::limits::WINDOWS;
 
 /// Finds the bounds of a place's modes, and shows them, up to the first mode that has none, which
-/// is the answer. The row has the work of the places above.
-fn judge_place<L: Line>(line: &L, sums: &[u32], place: usize, cells: &mut [u32]) -> Option<usize>
-    requires lawful { L.lawful line.now }
-    requires inside { place < (L.meaning line.now).count }
-    requires row { Sums (L.meaning line.now) place sums.now }
+/// is the answer.
+fn judge_place<L: Line>(row: &Row<L>, cells: &mut [u32]) -> Option<usize>
+    requires inside { row.now.place < 16 }
     requires room { 256 ≤ length cells.old }
-    ensures over { result ≡ over_in (L.meaning line.now) place }
-    ensures shows { Shows (L.meaning line.now) (place * 16) (place * 16 + reached (L.meaning line.now) place) cells.old cells.new }
+    ensures over { result ≡ over_in (L.meaning row.now.line.now) row.now.place }
+    ensures shows { Shows (L.meaning row.now.line.now) (row.now.place * 16) (row.now.place * 16 + reached (L.meaning row.now.line.now) row.now.place) cells.old cells.new }
 {
-    let modes = line.modes(place);
+    let modes = row.line.modes(row.place);
     for mode in 0..modes {
-        let cost = line.cost(place, mode);
-        let deadline = line.deadline(place, mode);
-        match bound(sums, cost, deadline) {
-            Some(window) => show(cells, place, mode, window),
+        match row.bound(mode) {
+            Some(window) => show(cells, row.place, mode, window),
             None => return Some(mode),
         }
     }
     None
 }
 
-/// The first place and mode without a bound; those before it show theirs, in cells that were 0.
-pub fn first_over<L: Line>(line: &L, cells: &mut [u32]) -> Option<(usize, usize)>
+/// The verdict on a line; the modes before it show their bounds, in cells that were 0.
+pub fn judge_places<L: Line>(line: &L, cells: &mut [u32]) -> Verdict<usize>
     requires lawful { L.lawful line.now }
     requires room { 256 ≤ length cells.old }
     requires zeros { (n : ℕ) → n < 256 → slice_index cells.old n ≡ 0 }
-    ensures over { result ≡ first_over (L.meaning line.now) }
+    ensures verdict { result ≡ verdict_of (L.meaning line.now) }
     ensures shows { Shows (L.meaning line.now) 0 (reached_cell (L.meaning line.now)) cells.old cells.new }
 {
-    let mut sums = [0; WINDOWS];
+    let mut row = Row::first(line);
     let count = line.count();
     for place in 0..count {
-        add_above(line, place, &mut sums);
-        if let Some(mode) = judge_place(line, &sums, place, cells) {
-            return Some((place, mode));
+        row = row.reach(place);
+        if let Some(mode) = judge_place(&row, cells) {
+            return Verdict::Over { task: place, mode };
         }
     }
-    None
+    Verdict::Fits
 }

@@ -1,31 +1,85 @@
 //! The row of sums: for each window, the most work that the places above can ask for in it.
-ghost use Rattle.std.specs.Prelude.{◌≡◌, ◌+◌, ◌-◌, ◌<◌, ◌≤◌, length, slice_index, slice_set};
-ghost use Rattle.response.specs.Rows.{Sums, added_at};
+ghost use Rattle.std.specs.Prelude.{◌≡◌, ◌+◌, ◌≤◌, ◌<◌};
+ghost use Rattle.line.specs.Lawful.{Lawful};
+ghost use Rattle.response.specs.Bounds.{bound_of};
+ghost use Rattle.response.specs.Rows.{Sums};
 
+use crate::search::least;
 use line::Line;
-use line::limits::WINDOW;
+use line::limits::WINDOWS;
 
-/// Adds what the place just above can ask for in one window.
-fn add_at<L: Line>(line: &L, place: usize, window: u32, sums: &mut [u32])
-    requires below { 1 ≤ place }
-    requires room { window < length sums.old }
-    requires small { added_at (L.meaning line.now) (place - 1) window (slice_index sums.old window) ≤ 16000000 }
-    ensures { sums.new ≡ slice_set sums.old window (added_at (L.meaning line.now) (place - 1) window (slice_index sums.old window)) }
-{
-    sums[window as usize] += line.most(place - 1, window);
+/// A place of a line, and what the places above it can ask for.
+#[derive(Drop)]
+pub struct Row<'a, L: Line> {
+    /// The line.
+    pub line: &'a L,
+    /// The place.
+    pub place: usize,
+    /// For each window, the most work that the places above can ask for in it.
+    sums: [u32; WINDOWS],
+    ghost laws: { Lawful (L.meaning line.now) },
+    ghost inside: { place ≤ 16 },
+    ghost row: { Sums (L.meaning line.now) place sums },
 }
 
-/// Brings the row to a place: adds the work of the place just above it, if there is one.
-pub fn add_above<L: Line>(line: &L, place: usize, sums: &mut [u32])
-    requires lawful { L.lawful line.now }
-    requires inside { place < (L.meaning line.now).count }
-    requires row { Sums (L.meaning line.now) (place - 1) sums.old }
-    ensures { Sums (L.meaning line.now) place sums.new }
-{
-    if place == 0 {
-        return;
+impl<'a, L: Line> Row<'a, L> {
+    /// The first place of a line: no place is above it.
+    pub fn first(line: &'a L) -> Row<'a, L>
+        requires { L.lawful line.now }
+        ensures line { result.line.now ≡ line.now }
+        ensures place { result.place ≡ 0 }
+    {
+        Row {
+            line,
+            place: 0,
+            sums: [0; WINDOWS],
+        }
     }
-    for window in 0..=WINDOW {
-        add_at(line, place, window, sums);
+
+    /// A place, which is this one or the next.
+    pub fn reach(self, place: usize) -> Row<'a, L>
+        requires from { self.place ≤ place }
+        requires near { place ≤ self.place + 1 }
+        requires inside { place ≤ 16 }
+        ensures line { result.line.now ≡ self.entry.line.now }
+        ensures place { result.place ≡ place }
+    {
+        if self.place < place {
+            self.next()
+        } else {
+            self
+        }
+    }
+
+    /// The next place: the one that is left is above it.
+    fn next(self) -> Row<'a, L>
+        requires { self.place < 16 }
+        ensures line { result.line.now ≡ self.entry.line.now }
+        ensures place { result.place ≡ self.entry.place + 1 }
+    {
+        let Row {
+            line,
+            place,
+            mut sums,
+        } = self;
+        for (window, sum) in sums.iter_mut().enumerate() {
+            *sum += line.most(place, window as u32);
+        }
+        Row {
+            line,
+            place: place + 1,
+            sums,
+        }
+    }
+
+    /// The bound of a mode of the place, if it has one.
+    pub fn bound(&self, mode: usize) -> Option<u32>
+        ensures { result ≡ bound_of (L.meaning self.now.line.now) self.now.place mode }
+    {
+        least(
+            &self.sums,
+            self.line.cost(self.place, mode),
+            self.line.deadline(self.place, mode),
+        )
     }
 }
