@@ -1,3 +1,4 @@
+pub mod Offers
 pub mod Sheets
 pub mod Shows
 pub mod Laws

@@ -6,7 +6,7 @@ use Rattle.line.specs.Meaning.{Graph}
 use Rattle.line.specs.Lawful.{GraphLaws}
 use Rattle.angular.specs.Greatest.{Greatest}
 use Rattle.angular.specs.Best.{next, best}
-use Rattle.angular.specs.Sheets.{cell_at, Filled, FilledTo, Kept}
+use Rattle.angular.specs.Sheets.{cell_at, Exact, Filled, FilledTo, Kept}
 use Rattle.angular.specs.Walks.{step, gaps_some, single, best_greatest}
 
 -- The value of a cell, from the columns before it.
@@ -42,6 +42,10 @@ filled_more G sheet w f row m u lm lu = elim (cases_eq w u) [
 -- A cell of a filled sheet has the computed work.
 pub filled_best : (G : Graph) (sheet : List ℕ) → GraphLaws G → Filled G sheet → (m w : ℕ) → m < G.modes → w ≤ 1000 → cell_at sheet m w ≡ best G w m w
 filled_best G sheet s f m w lm lw = single G m w _ _ (f m w lm (omega arith)) (best_greatest G w m w s lm (omega arith))
+
+-- And cells that have the computed work are filled.
+pub filled_from : (G : Graph) (sheet : List ℕ) → GraphLaws G → Exact G sheet → Filled G sheet
+filled_from G sheet s e m w lm lw = subst (Greatest G m w) (sym (e m w lm (omega arith))) (best_greatest G w m w s lm (omega arith))
 
 -- Two sheets that are filled for one graph agree at its cells.
 pub filled_single : (G : Graph) (s t : List ℕ) → Filled G s → Filled G t → (m w : ℕ) → m < G.modes → w ≤ 1000 → cell_at s m w ≡ cell_at t m w

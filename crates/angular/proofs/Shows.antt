@@ -1,17 +1,19 @@
 -- A row and a walk, read off a filled sheet. Assumes nothing.
-use Rattle.std.proofs.Common.{◌≡◌, ℕ, ◌+◌, ◌-◌, ◌<◌, ◌≤◌, ltb, List, [], ◌∷◌, ◌++◌, length, get_or, take, set, is_some, Some, None, vec_items, vec_len, Option, Vec, unwrap_or, sym, refl, ap, ◌∙◌, subst, inl, inr, append_assoc, arith, MatchOption}
+use Rattle.std.proofs.Common.{◌≡◌, ℕ, ◌+◌, ◌<◌, ◌≤◌, List, [], ◌∷◌, ◌++◌, length, get_or, take, set, is_some, Some, None, vec_items, vec_len, Option, Vec, unwrap_or, sym, refl, ap, ◌∙◌, subst, inl, inr, append_assoc, arith, MatchOption}
 use Rattle.std.specs.Vec.{with_items}
 use Rattle.std.specs.declared.alloc.Global.{Global}
 use Rattle.std.proofs.lemmas.List.{get_or-set_same, get_or-set_other, take_more_set, with_items_is}
-use Rattle.std.proofs.lemmas.Bool.{cases_eq, cond-false, le-ltb}
+use Rattle.std.proofs.lemmas.Bool.{cases_eq}
 use Rattle.line.specs.Meaning.{Graph}
 use Rattle.line.specs.Walks.{Walk, Fits, span, work}
 use Rattle.line.specs.Lawful.{GraphLaws}
 use Rattle.line.specs.Shows.{Shown}
 use Rattle.angular.specs.Greatest.{Fitting}
-use Rattle.angular.specs.Best.{over, next, offer, most_of}
+use Rattle.modes.specs.Plans.{Plan, graph_of}
+use Rattle.angular.specs.Tasks.{angular_task}
+use Rattle.angular.specs.Best.{next, most_of}
 use Rattle.angular.specs.Sheets.{cell_at, Filled, RowTo, Onward}
-use Rattle.angular.specs.Walks.{over_more, offer_some, first_mode, gaps_some, most_is, most_single, most_none}
+use Rattle.angular.specs.Walks.{first_mode, gaps_some, most_is, most_single, most_none}
 use Rattle.angular.proofs.Sheets.{cell_split}
 
 -- ---- `start` and `write_row`
@@ -34,34 +36,6 @@ row_more G w v row lt h here u lu = elim (cases_eq w u) [
   | inl e ↦ subst (λ x. get_or (set row w v) x 0 ≡ most_of G x) e (get_or-set_same row w v 0 lt ∙ here)
   | inr n ↦ get_or-set_other row w u v 0 (omega arith) ∙ h u (omega arith)
 ]
-
--- ---- `onward`: a turn of its loop
-module _ (G : Graph) (F : ℕ → ℕ → ℕ) (m w : ℕ) where
-  -- Of the first k modes, v is the most that one of them adds, and it is picked.
-  abbrev pub Picked : ℕ → ℕ → Option (ℕ × ℕ) → Type 0
-  Picked k v pick =
-      (v ≡ over (λ x. offer (G.gap m x) w (F x)) k)
-      × MatchOption pick (v ≡ 0) (λ p. Onward G F m w v p.0 p.1)
-
-  keeps : (k v : ℕ) (pick : Option (ℕ × ℕ)) → Picked k v pick → offer (G.gap m k) w (F k) ≤ v → Picked (k + 1) v pick
-  keeps k v pick h le = (omega (arith, h.0, over_more (λ x. offer (G.gap m x) w (F x)) k), h.1)
-
-  pub keeps_none : (k v : ℕ) (pick : Option (ℕ × ℕ)) → Picked k v pick → G.gap m k ≡ None → Picked (k + 1) v pick
-  keeps_none k v pick h e = keeps k v pick h (omega (arith, ap (λ x. offer x w (F k)) e))
-
-  pub keeps_far : (k v g : ℕ) (pick : Option (ℕ × ℕ)) → Picked k v pick → G.gap m k ≡ Some g → w ≤ g → Picked (k + 1) v pick
-  keeps_far k v g pick h e le =
-      keeps k v pick h (omega (arith, ap (λ x. offer x w (F k)) e ∙ cond-false (ltb g w) (F k (w - g)) 0 (le-ltb g w le)))
-
-  pub keeps_less : (k v g x : ℕ) (pick : Option (ℕ × ℕ)) → Picked k v pick → G.gap m k ≡ Some g → g < w → x ≡ F k (w - g) → x ≤ v → Picked (k + 1) v pick
-  keeps_less k v g x pick h e lt is le = keeps k v pick h (omega (arith, offer_some (G.gap m k) g w (F k) e lt))
-
-  pub takes : (k v g x : ℕ) (pick : Option (ℕ × ℕ)) → k < G.modes → Picked k v pick → G.gap m k ≡ Some g → g < w → x ≡ F k (w - g) → v < x
-      → Picked (k + 1) x (Some (k, w - g))
-  takes k v g x pick lk h e lt is more = (
-    omega (arith, h.0, over_more (λ x. offer (G.gap m x) w (F x)) k, offer_some (G.gap m k) g w (F k) e lt),
-    record { mode = lk; gap = g; linked = e; left = omega arith; some = omega arith; value = sym is },
-  )
 
 -- ---- `write_walk`
 -- The list so far, p, goes on from m with w left: any walk on from there makes a walk for the whole window W.
@@ -122,8 +96,48 @@ module _ (G : Graph) (s : GraphLaws G) (sheet : List ℕ) (W v : ℕ) (was list 
   )
 
 -- In a window of none the empty walk has the most work.
-pub walk_none : (G : Graph) → GraphLaws G → (list : List ℕ) → Shown (record { graph = G; most = most_of G }) 0 0 list list
+walk_none : (G : Graph) → GraphLaws G → (list : List ℕ) → Shown (record { graph = G; most = most_of G }) 0 0 list list
 walk_none G s list = record { within = omega arith; walk = tt; fits = tt; most = sym (most_none G s); later = λ k h. refl }
+
+-- The first n cells of the list are a walk that has the most work, or one that goes on at `at` to have it; later
+-- cells are as they were.
+abbrev pub Shows_on : Plan → List ℕ → ℕ → List ℕ → List ℕ → ℕ → Option (ℕ × ℕ) → Type 0
+Shows_on p sheet W was list n at =
+    MatchOption at (Shown (angular_task p) W n was list)
+    (λ x. (n + x.1 ≤ W) × Sofar (graph_of p) (cell_at sheet) W (most_of (graph_of p) W) (take n list) x.0 x.1 × ((k : ℕ) → n ≤ k → get_or list k 0 ≡ get_or was k 0))
+
+module _ (p : Plan) (s : GraphLaws (graph_of p)) (sheet : List ℕ) (full : Filled (graph_of p) sheet) (W : ℕ) (lW : W ≤ 1000) (was : List ℕ) where
+  pub shows_nothing : W ≡ 0 → Shows_on p sheet W was was 0 None
+  shows_nothing e = subst (λ w. Shown (angular_task p) w 0 was was) (sym e) (walk_none (graph_of p) s was)
+
+  pub shows_start : (m : ℕ) → 0 < W → m < length p.modes → ((k : ℕ) → k < length p.modes → cell_at sheet k W ≤ cell_at sheet m W) → Shows_on p sheet W was was 0 (Some (m, W))
+  shows_start m some there greatest =
+      let top = start_most (graph_of p) sheet W m s lW full there greatest in
+      let on = sofar_none (graph_of p) (cell_at sheet) W m there some in
+      (omega arith, subst (λ v. Sofar (graph_of p) (cell_at sheet) W v [] m W) top on, λ k l. refl)
+
+  module _ (list : List ℕ) (n : ℕ) (at : Option (ℕ × ℕ)) (h : Shows_on p sheet W was list n at) where
+    pub shows_done : at ≡ None → Shown (angular_task p) W n was list
+    shows_done e = subst (λ o. Shows_on p sheet W was list n o) e h
+
+    pub shows_next : (m w : ℕ) → at ≡ Some (m, w) → n < length list → (o : Option (ℕ × ℕ))
+        → MatchOption o (next (graph_of p) (cell_at sheet) m w ≡ 0) (λ q. Onward (graph_of p) (cell_at sheet) m w (next (graph_of p) (cell_at sheet) m w) q.0 q.1)
+        → Shows_on p sheet W was (set list n m) (n + 1) o
+    shows_next m w e lt o then = by o then
+      where
+        i : Shows_on p sheet W was list n (Some (m, w))
+        i = subst (λ o. Shows_on p sheet W was list n o) e h
+
+        by : (o : Option (ℕ × ℕ))
+            → MatchOption o (next (graph_of p) (cell_at sheet) m w ≡ 0) (λ q. Onward (graph_of p) (cell_at sheet) m w (next (graph_of p) (cell_at sheet) m w) q.0 q.1)
+            → Shows_on p sheet W was (set list n m) (n + 1) o
+        by None z = walk_done (graph_of p) s sheet W (most_of (graph_of p) W) was list n m w full lW lt i.0 i.1 i.2 refl z
+        by (Some q) on = walk_more (graph_of p) s sheet W (most_of (graph_of p) W) was list n m w full lW lt i.0 i.1 i.2 q.0 q.1 on
+
+  -- A list that is full has the whole walk.
+  pub shows_full : (list : List ℕ) (n : ℕ) (at : Option (ℕ × ℕ)) → Shows_on p sheet W was list n at → 1000 ≤ n → Shown (angular_task p) W n was list
+  shows_full list n None h long = h
+  shows_full list n (Some x) h long = absurd (omega (arith, h.0, h.1.some))
 
 -- ---- the row of a task
 -- A Vec whose cells were all written holds what was written.

@@ -7,6 +7,11 @@ abbrev pub over : (ℕ → ℕ) → ℕ → ℕ
 over f zero = 0
 over f (suc k) = max (over f k) (f k)
 
+-- What a gap leaves of w, if it leaves any.
+abbrev pub left : Option ℕ → ℕ → Option ℕ
+left None w = None
+left (Some g) w = cond (nat_lt g w) (Some (w - g)) None
+
 -- What a next mode adds over a gap with w left: its work f in the window that remains, if any does.
 abbrev pub offer : Option ℕ → ℕ → (ℕ → ℕ) → ℕ
 offer None w f = 0

@@ -2,7 +2,7 @@
 use Rattle.std.specs.Prelude.{◌≡◌, ℕ, ◌+◌, ◌*◌, ◌<◌, ◌≤◌, List, Some, slice_index}
 use Rattle.line.specs.Meaning.{Graph}
 use Rattle.angular.specs.Greatest.{Greatest}
-use Rattle.angular.specs.Best.{most_of}
+use Rattle.angular.specs.Best.{best, most_of}
 
 -- The cell of the mode m and the window w.
 abbrev pub cell_at : List ℕ → ℕ → ℕ → ℕ
@@ -20,6 +20,10 @@ FilledTo G sheet w = (m u : ℕ) → m < G.modes → u < w → Greatest G m u (c
 -- of a walk that begins in the mode and fits the window.
 abbrev pub Filled : Graph → List ℕ → Type 0
 Filled G sheet = FilledTo G sheet 1001
+
+-- Each cell of a mode and a window from 0 to 1,000 has the work that is computed.
+abbrev pub Exact : Graph → List ℕ → Type 0
+Exact G sheet = (m w : ℕ) → m < G.modes → w ≤ 1000 → cell_at sheet m w ≡ best G w m w
 
 -- Past the rows of n modes every cell is as it was.
 abbrev pub Kept : ℕ → List ℕ → List ℕ → Type 0

@@ -12,11 +12,11 @@ use Rattle.line.specs.Lighter.{Lighter}
 pub over_more : (f : ℕ → ℕ) (k : ℕ) → over f (k + 1) ≡ max (over f k) (f k)
 over_more f k = rw add-one
 
-over_top : (f : ℕ → ℕ) (k b : ℕ) → b < k → f b ≤ over f k
+pub over_top : (f : ℕ → ℕ) (k b : ℕ) → b < k → f b ≤ over f k
 over_top f zero b h = omega (arith, h)
 over_top f (suc k) b h = elim (cases_eq b k) [ inl e ↦ omega (arith, ap f e) | inr n ↦ omega (arith, over_top f k b (omega arith)) ]
 
-over_pick : (f : ℕ → ℕ) (k : ℕ) → (over f k ≡ 0) ⊎ ((b : ℕ) × (b < k) × (f b ≡ over f k))
+pub over_pick : (f : ℕ → ℕ) (k : ℕ) → (over f k ≡ 0) ⊎ ((b : ℕ) × (b < k) × (f b ≡ over f k))
 over_pick f zero = inl refl
 over_pick f (suc k) =
     elim (cases_lt (over f k) (f k)) [

@@ -21,7 +21,7 @@ ghost use Rattle.modes.proofs.Plans.{graph_laws};
 ghost use Rattle.angular.specs.Laws.{plan_laws};
 
 use crate::sheet::fill;
-use crate::show::{write_row, write_walk};
+use crate::show::FilledSheet;
 use line::joined::may_show;
 use line::limits::{WINDOW, WINDOWS};
 use line::ranged::Ranged;
@@ -63,7 +63,7 @@ impl Angular {
         ensures kept { Kept (length (plan graph).modes) sheet.old sheet.new }
     {
         fill(&graph, sheet);
-        write_row(&graph, sheet, &mut row);
+        FilledSheet::new(&graph, sheet).write_row(&mut row);
         Angular { graph, row }
     }
 
@@ -114,20 +114,14 @@ impl Line for Angular {
         if place != 0 {
             return 0;
         }
-        match self.graph.mode(mode) {
-            Some(m) => m.cost,
-            None => 0,
-        }
+        self.graph.mode(mode).map_or(0, |m| m.cost)
     }
 
     fn deadline(&self, place: usize, mode: usize) -> u32 {
         if place != 0 {
             return 0;
         }
-        match self.graph.mode(mode) {
-            Some(m) => m.deadline,
-            None => 0,
-        }
+        self.graph.mode(mode).map_or(0, |m| m.deadline)
     }
 
     fn gap(&self, place: usize, from: usize, to: usize) -> Option<u32> {
@@ -159,6 +153,6 @@ impl ExactLine for Angular {
     ) -> Result<usize, Refusal> {
         may_show(1, place, window, sheet.len(), list.len())?;
         fill(&self.graph, sheet);
-        Ok(write_walk(&self.graph, sheet, window as usize, list))
+        Ok(FilledSheet::new(&self.graph, sheet).write_walk(window as usize, list))
     }
 }

@@ -5,7 +5,8 @@ use Rattle.angular.specs.Sheets.{ColumnTo, FilledTo, Kept}
 use Rattle.angular.proofs.sheet.column.Given as goal
 
 abbrev pub invariant-loop-m : goal.invariant-loop-m
-invariant-loop-m l =
-    FilledTo (graph_of (plan l.graph)) l.sheet l.w
-    × ColumnTo (graph_of (plan l.graph)) l.sheet l.w l.m
-    × Kept (length (plan l.graph).modes) l.initial.sheet l.sheet
+invariant-loop-m l = record {
+  before : FilledTo (graph_of (plan l.graph)) l.cells l.w;
+  here : ColumnTo (graph_of (plan l.graph)) l.cells l.w l.m;
+  kept : Kept (length (plan l.graph).modes) l.initial.cells l.cells;
+}

@@ -5,4 +5,4 @@ use Rattle.angular.specs.Sheets.{FilledTo, Kept}
 use Rattle.angular.proofs.sheet.fill.Given as goal
 
 abbrev pub invariant-loop-w : goal.invariant-loop-w
-invariant-loop-w l = FilledTo (graph_of (plan l.graph)) l.sheet l.w × Kept (length (plan l.graph).modes) l.initial.sheet l.sheet
+invariant-loop-w l = record { filled : FilledTo (graph_of (plan l.graph)) l.cells l.w; kept : Kept (length (plan l.graph).modes) l.initial.cells l.cells }
