@@ -1,5 +1,5 @@
 -- The first of some numbers that passes a test. Assumes nothing.
-use Rattle.std.proofs.Common.{◌≡◌, ℕ, zero, suc, ◌+◌, ◌-◌, ◌<◌, ◌≤◌, Bool, true, false, cond, Some, None, sym, refl, ap, subst, inl, inr, add-one, arith}
+use Rattle.std.proofs.Common.{◌≡◌, ℕ, zero, suc, ◌+◌, ◌<◌, ◌≤◌, Bool, true, false, cond, Some, None, sym, refl, ap, subst, inl, inr, arith}
 use Rattle.std.proofs.lemmas.Bool.{cases_eq}
 use Rattle.response.specs.Bounds.{first_from}
 
@@ -10,14 +10,10 @@ pub record First (test : ℕ → Bool) (n k v : ℕ) : Type 0 where
   pub passes : test v ≡ true
   pub others : (u : ℕ) → k ≤ u → u < v → test u ≡ false
 
--- A number that passes is the first; one that does not leaves the rest.
+-- A number that passes is the first.
 pub first_here : (t : ℕ → Bool) (n k : ℕ) → 1 ≤ n → t k ≡ true → first_from t n k ≡ Some k
 first_here t zero k h e = absurd (omega arith)
 first_here t (suc n) k h e = rw e
-
-pub first_later : (t : ℕ → Bool) (n k : ℕ) → 1 ≤ n → t k ≡ false → first_from t n k ≡ first_from t (n - 1) (k + 1)
-first_later t zero k h e = absurd (omega arith)
-first_later t (suc n) k h e = let p : suc n - 1 ≡ n = omega arith in rw (e, p, add-one)
 
 pub first_end : (t : ℕ → Bool) (n k : ℕ) → n ≡ 0 → first_from t n k ≡ None
 first_end t zero k h = refl

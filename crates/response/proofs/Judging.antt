@@ -7,7 +7,7 @@ use Rattle.response.specs.declared.Verdict.TheVariants.{Fits, Over}
 use Rattle.response.specs.Bounds.{first_from, bound_of}
 use Rattle.response.specs.Verdicts.{missing, lacks, over_in, over_or, over_from, first_over, as_verdict, verdict_of}
 use Rattle.response.specs.Judgements.{Mode, Before}
-use Rattle.response.proofs.Firsts.{first_found, first_none, first_here, first_later}
+use Rattle.response.proofs.Firsts.{first_found, first_none, first_here}
 
 -- The mode has a bound.
 abbrev pub Bounded : Meaning → ℕ → ℕ → Type 0
@@ -48,9 +48,6 @@ over_start m p = let e : modes_in (task_at m p) ≡ modes_in (task_at m p) - 0 =
 module _ (m : Meaning) (p n i : ℕ) (some : 1 ≤ n) (left : over_in m p ≡ first_from (lacks m p) n i) where
   pub over_here : bound_of m p i ≡ None → over_in m p ≡ Some i
   over_here e = left ∙ first_here (lacks m p) n i some (ap missing e)
-
-  pub over_later : (w rest : ℕ) → n - 1 ≡ rest → bound_of m p i ≡ Some w → over_in m p ≡ first_from (lacks m p) rest (i + 1)
-  over_later w rest fewer e = left ∙ first_later (lacks m p) n i some (ap missing e) ∙ ap (λ k. first_from (lacks m p) k (i + 1)) fewer
 
 -- Place q, with mode j, is the first of n places from p on that is over.
 record OverFrom (m : Meaning) (n p q j : ℕ) : Type 0 where

@@ -1,7 +1,7 @@
 -- The cells as the judge writes them, and what they show in the end. Assumes nothing.
-use Rattle.std.proofs.Common.{◌≡◌, ℕ, ◌+◌, ◌-◌, ◌*◌, ◌/◌, ◌%◌, ◌<◌, ◌≤◌, Bool, true, false, cond, ltb, List, ◌++◌, length, get_or, drop, set, replicate, Some, None, Ok, Err, Option, unwrap_or, sym, refl, ap, ◌∙◌, subst, inl, inr, arith}
+use Rattle.std.proofs.Common.{◌≡◌, ℕ, ◌+◌, ◌-◌, ◌*◌, ◌/◌, ◌%◌, ◌<◌, ◌≤◌, Bool, true, false, cond, ltb, List, ◌++◌, length, get_or, drop, replicate, Some, None, Ok, Err, Option, unwrap_or, sym, refl, ap, ◌∙◌, subst, inl, inr, arith}
 use Rattle.std.proofs.lemmas.List.FromFn.{length-map-range_with_len, get_or-map-range_with_len}
-use Rattle.std.proofs.lemmas.List.{get_or-set_same, get_or-set_other, get_or-replicate, length-replicate, length-append, length-drop, get_or_append_left, get_or-append_right, get_or-drop, ext_get_or}
+use Rattle.std.proofs.lemmas.List.{get_or-replicate, length-replicate, length-append, length-drop, get_or_append_left, get_or-append_right, get_or-drop, ext_get_or}
 use Rattle.std.proofs.lemmas.Bool.{cases_lt, cond-true, cond-false, lt-ltb, le-ltb}
 use Rattle.std.proofs.lemmas.Bool.Decides.{nat_tests}
 use Rattle.line.specs.declared.refusal.Refusal.TheVariants.{TooShort}
@@ -46,22 +46,6 @@ at_cell m p i h = ap (λ k. bound_of m k ((p * 16 + i) % 16)) (cell_place p i h)
 module _ (m : Meaning) where
   pub shows_none : (a : ℕ) (was : List ℕ) → Shows m a (a + 0) was was
   shows_none a was = record { inside = λ n x y. absurd (omega arith); before = λ n h. refl; after = λ n h. refl }
-
-  shows_set : (a p i w : ℕ) (was is : List ℕ) → i < 16 → a ≤ p * 16 + i → p * 16 + i < length is → bound_of m p i ≡ Some w → Shows m a (p * 16 + i) was is → Shows m a (p * 16 + (i + 1)) was (set is (p * 16 + i) w)
-  shows_set a p i w was is few from room found old = record {
-    inside = λ n x y. elim (cases_lt n (p * 16 + i)) [
-      | inl lt ↦ get_or-set_other is (p * 16 + i) n w 0 (omega arith) ∙ old.inside n x lt
-      | inr le ↦
-          let same : p * 16 + i ≡ n = omega arith in
-          subst (λ k. get_or (set is (p * 16 + i) w) k 0 ≡ bound_at m k) same
-          (get_or-set_same is (p * 16 + i) w 0 room ∙ sym (ap (λ o. unwrap_or o 0) (at_cell m p i few ∙ found)))
-    ];
-    before = λ n h. get_or-set_other is (p * 16 + i) n w 0 (omega arith) ∙ old.before n h;
-    after = λ n h. get_or-set_other is (p * 16 + i) n w 0 (omega arith) ∙ old.after n (omega arith);
-  }
-
-  pub shows_more : (a p i w : ℕ) (was is now : List ℕ) → now ≡ set is (p * 16 + i) w → i < 16 → a ≤ p * 16 + i → p * 16 + i < length is → bound_of m p i ≡ Some w → Shows m a (p * 16 + i) was is → Shows m a (p * 16 + (i + 1)) was now
-  shows_more a p i w was is now e few from room found old = subst (Shows m a (p * 16 + (i + 1)) was) (sym e) (shows_set a p i w was is few from room found old)
 
   pub shows_reached : (p i : ℕ) (was is : List ℕ) → over_in m p ≡ Some i → Shows m (p * 16) (p * 16 + i) was is → Shows m (p * 16) (p * 16 + reached m p) was is
   shows_reached p i was is e = subst (λ o. Shows m (p * 16) (p * 16 + unwrap_or o (modes_in (task_at m p))) was is) (sym e)
