@@ -7,6 +7,7 @@ use Rattle.calls.specs.declared.call.Call.{Call}
 use Rattle.calls.specs.declared.call.Call.TheVariants as call
 use Rattle.calls.specs.declared.call.Length.{Length}
 use Rattle.calls.specs.declared.call.Memory.{Memory}
+use Rattle.calls.specs.declared.list.Calls.{Calls}
 use Rattle.calls.specs.declared.list.Step.{Step}
 
 -- The numbers that the words of a line spell, behind those that were seen; nothing where a word spells none, or where
@@ -72,3 +73,17 @@ opened (Some n) c rest = load_of n rest
 -- The first line of a list, without its line feed, is a call or none; the rest is what follows the line, and the text that it brings.
 abbrev pub first_read : List ℕ → Read
 first_read list = opened (load_length (call_of (front list 10))) (call_of (front list 10)) (unwrap_or (behind list 10) [])
+
+-- The calls of a list of up to n bytes, in their order.
+abbrev pub calls_within : ℕ → List ℕ → List Read
+calls_within zero bs = []
+calls_within (suc n) [] = []
+calls_within (suc n) (b ∷ bs) = first_read (b ∷ bs) ∷ calls_within n (first_read (b ∷ bs)).rest
+
+-- The calls of a list, in their order.
+unfoldable pub calls_of : List ℕ → List Read
+calls_of bs = calls_within (length bs) bs
+
+-- The calls that are still to be read.
+abbrev pub calls_left : Calls → List Read
+calls_left c = calls_of c.rest.now

@@ -88,3 +88,7 @@ pub enum Call {
     /// All lent memory as it was at first.
     Whole,
 }
+
+/// A line that is no call, or a word that names nothing to lend.
+#[derive(Clone, Copy, Debug, PartialEq, Eq)]
+pub struct NoCall;

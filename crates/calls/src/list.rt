@@ -1,11 +1,11 @@
 //! Reading a list call by call.
 ghost use Rattle.std.specs.Prelude.{◌≡◌, option_map};
-ghost use Rattle.calls.specs.Lists.{call_named, lending_call, call_of, read, load_length, load_of, first_read};
+ghost use Rattle.std.specs.Result.{result_ok};
+ghost use Rattle.std.specs.Iterator.{YieldsFirstBy, item_count};
+ghost use Rattle.calls.specs.Lists.{lending_call, call_of, read, load_length, load_of, first_read, calls_left, calls_of};
 
-use crate::call::Call;
-use crate::names::{
-    length_of, memory_of, plain, with_five, with_four, with_one, with_three, with_two,
-};
+use crate::call::{Call, Length, Memory, NoCall};
+use crate::names::named;
 use crate::words::{LINE_FEED, SPACE, cut_at, numbers_of};
 
 /// The first call of a list, if its line is one; the text that it brings; and the rest of the list.
@@ -16,40 +16,28 @@ pub struct Step<'a> {
     pub rest: &'a [u8],
 }
 
-/// The call of that name and those numbers.
-fn named(name: &[u8], numbers: &[u32]) -> Option<Call>
-    ensures { result ≡ call_named name.now numbers.now }
-{
-    match numbers {
-        [] => plain(name),
-        [a] => with_one(name, *a),
-        [a, b] => with_two(name, *a, *b),
-        [a, b, c] => with_three(name, *a, *b, *c),
-        [a, b, c, d] => with_four(name, *a, *b, *c, *d),
-        [a, b, c, d, e] => with_five(name, *a, *b, *c, *d, *e),
-        _ => None,
-    }
-}
-
 /// The call of a line that says what is lent, and how much of it.
-fn lending(name: &[u8], words: Option<&[u8]>) -> Option<Call>
-    ensures { result ≡ lending_call name.now (option_map (λ w. w.now) words.entry) }
+fn lending(name: &[u8], words: Option<&[u8]>) -> Result<Call, NoCall>
+    ensures { result_ok result ≡ lending_call name.now (option_map (λ w. w.now) words.entry) }
 {
-    let length = length_of(name)?;
-    let memory = memory_of(words?)?;
-    Some(Call::Lend(memory, length))
+    let length = Length::try_from(name)?;
+    let memory = Memory::try_from(words.ok_or(NoCall)?)?;
+    Ok(Call::Lend(memory, length))
 }
 
-/// The call that a line is, if it is one.
-fn call_of(line: &[u8]) -> Option<Call>
-    ensures { result ≡ call_of line.now }
-{
-    let (name, words) = cut_at(line, SPACE);
-    if let Some(call) = lending(name, words) {
-        return Some(call);
+impl TryFrom<&[u8]> for Call {
+    type Error = NoCall;
+
+    ghost try_from_gives = { λ line r. result_ok r ≡ call_of line.now };
+
+    fn try_from(line: &[u8]) -> Result<Call, NoCall> {
+        let (name, words) = cut_at(line, SPACE);
+        if let Ok(call) = lending(name, words) {
+            return Ok(call);
+        }
+        let numbers = numbers_of(words).ok_or(NoCall)?;
+        named(name, &numbers).ok_or(NoCall)
     }
-    let (count, numbers) = numbers_of(words)?;
-    named(name, &numbers[0..count])
 }
 
 /// The length of the text that a call brings, if it brings one.
@@ -88,7 +76,7 @@ pub fn first_call(list: &[u8]) -> Step<'_>
 {
     let (line, after) = cut_at(list, LINE_FEED);
     let rest = after.unwrap_or(b"");
-    let call = call_of(line);
+    let call = Call::try_from(line).ok();
     match load_length(call) {
         Some(length) => with_text(length, rest),
         None => Step {
@@ -96,5 +84,37 @@ pub fn first_call(list: &[u8]) -> Step<'_>
             text: b"",
             rest,
         },
+    }
+}
+
+/// The calls of a list, in their order.
+#[derive(Drop)]
+pub struct Calls<'a> {
+    rest: &'a [u8],
+}
+
+impl<'a> Calls<'a> {
+    /// The calls of that list.
+    pub fn new(list: &'a [u8]) -> Calls<'a>
+        ensures { calls_left result ≡ calls_of list.now }
+    {
+        Calls { rest: list }
+    }
+}
+
+impl<'a> Iterator for Calls<'a> {
+    type Item = Step<'a>;
+
+    ghost next_gives = { YieldsFirstBy read calls_left };
+
+    ghost remaining = { item_count calls_left };
+
+    fn next(&mut self) -> Option<Step<'a>> {
+        if self.rest.is_empty() {
+            return None;
+        }
+        let first = first_call(self.rest);
+        self.rest = first.rest;
+        Some(first)
     }
 }

@@ -1,171 +1,80 @@
-//! The names of the calls, by the count of their numbers.
+//! The names of the calls, and of what a call lends.
 ghost use Rattle.std.specs.Prelude.{◌≡◌};
-ghost use Rattle.calls.specs.Names.{question_named, ending_named, other_named, plain_call, call_of_one, call_of_two, call_of_three, call_of_four, call_of_five, length_named, memory_named};
+ghost use Rattle.std.specs.Result.{result_ok};
+ghost use Rattle.calls.specs.Names.{length_named, memory_named};
+ghost use Rattle.calls.specs.Lists.{call_named};
 
-use crate::call::{Call, Drafting, Edit, Length, Memory, Question};
+use crate::call::{Call, Drafting, Edit, Length, Memory, NoCall, Question};
 
-/// A question without numbers.
-fn question_of(name: &[u8]) -> Option<Question>
-    ensures { result ≡ question_named name.now }
+/// The call of that name and those numbers.
+pub fn named(name: &[u8], numbers: &[u32]) -> Option<Call>
+    ensures { result ≡ call_named name.now numbers.now }
 {
-    match name {
-        b"verdict" => Some(Question::Verdict),
-        b"sheet" => Some(Question::Sheet),
-        b"output" => Some(Question::Output),
-        _ => None,
-    }
-}
-
-/// An end of a draft.
-fn ending_of(name: &[u8]) -> Option<Drafting>
-    ensures { result ≡ ending_named name.now }
-{
-    match name {
-        b"close" => Some(Drafting::Close),
-        b"abandon" => Some(Drafting::Abandon),
-        _ => None,
-    }
-}
-
-/// Any other call without numbers.
-fn other_of(name: &[u8]) -> Option<Call>
-    ensures { result ≡ other_named name.now }
-{
-    match name {
-        b"save" => Some(Call::Save),
-        b"judge" => Some(Call::Judge),
-        b"whole" => Some(Call::Whole),
-        _ => None,
-    }
-}
-
-/// A call without numbers.
-pub fn plain(name: &[u8]) -> Option<Call>
-    ensures { result ≡ plain_call name.now }
-{
-    if let Some(question) = question_of(name) {
-        return Some(Call::Ask(question));
-    }
-    if let Some(ending) = ending_of(name) {
-        return Some(Call::Drafting(ending));
-    }
-    other_of(name)
-}
-
-/// A call with one number.
-pub fn with_one(name: &[u8], a: u32) -> Option<Call>
-    ensures { result ≡ call_of_one name.now a }
-{
-    match name {
-        b"bench" => Some(Call::Bench(a)),
-        b"keep" => Some(Call::Keep(a)),
-        b"load" => Some(Call::Load(a)),
-        b"take" => Some(Call::Edit(Edit::Take { number: a })),
-        _ => None,
-    }
-}
-
-/// A call with two numbers.
-pub fn with_two(name: &[u8], a: u32, b: u32) -> Option<Call>
-    ensures { result ≡ call_of_two name.now a b }
-{
-    match name {
-        b"open" => Some(Call::Drafting(Drafting::Open {
-            number: a,
-            place: b,
-        })),
-        b"mode" => Some(Call::Drafting(Drafting::Mode {
-            cost: a,
-            deadline: b,
-        })),
-        b"bound" => Some(Call::Ask(Question::Bound { number: a, mode: b })),
-        b"most" => Some(Call::Ask(Question::Most {
-            place: a,
-            window: b,
-        })),
-        b"show" => Some(Call::Show {
-            number: a,
-            window: b,
+    let call = match (name, numbers) {
+        (b"bench", &[number]) => Call::Bench(number),
+        (b"keep", &[number]) => Call::Keep(number),
+        (b"put", &[number, place, cost, period, deadline]) => Call::Edit(Edit::Put {
+            number,
+            place,
+            cost,
+            period,
+            deadline,
         }),
-        _ => None,
+        (b"take", &[number]) => Call::Edit(Edit::Take { number }),
+        (b"lower", &[number, mode, cost]) => Call::Edit(Edit::Lower { number, mode, cost }),
+        (b"widen", &[number, from, to, gap]) => Call::Edit(Edit::Widen {
+            number,
+            from,
+            to,
+            gap,
+        }),
+        (b"cut", &[number, from, to]) => Call::Edit(Edit::Cut { number, from, to }),
+        (b"open", &[number, place]) => Call::Drafting(Drafting::Open { number, place }),
+        (b"mode", &[cost, deadline]) => Call::Drafting(Drafting::Mode { cost, deadline }),
+        (b"link", &[from, to, gap]) => Call::Drafting(Drafting::Link { from, to, gap }),
+        (b"close", []) => Call::Drafting(Drafting::Close),
+        (b"abandon", []) => Call::Drafting(Drafting::Abandon),
+        (b"verdict", []) => Call::Ask(Question::Verdict),
+        (b"bound", &[number, mode]) => Call::Ask(Question::Bound { number, mode }),
+        (b"most", &[place, window]) => Call::Ask(Question::Most { place, window }),
+        (b"sheet", []) => Call::Ask(Question::Sheet),
+        (b"output", []) => Call::Ask(Question::Output),
+        (b"load", &[length]) => Call::Load(length),
+        (b"save", []) => Call::Save,
+        (b"judge", []) => Call::Judge,
+        (b"show", &[number, window]) => Call::Show { number, window },
+        (b"whole", []) => Call::Whole,
+        _ => return None,
+    };
+    Some(call)
+}
+
+impl TryFrom<&[u8]> for Length {
+    type Error = NoCall;
+
+    ghost try_from_gives = { λ name r. result_ok r ≡ length_named name.now };
+
+    fn try_from(name: &[u8]) -> Result<Length, NoCall> {
+        match name {
+            b"short" => Ok(Length::Short),
+            b"fit" => Ok(Length::Fit),
+            b"long" => Ok(Length::Long),
+            _ => Err(NoCall),
+        }
     }
 }
 
-/// A call with three numbers.
-pub fn with_three(name: &[u8], a: u32, b: u32, c: u32) -> Option<Call>
-    ensures { result ≡ call_of_three name.now a b c }
-{
-    match name {
-        b"link" => Some(Call::Drafting(Drafting::Link {
-            from: a,
-            to: b,
-            gap: c,
-        })),
-        b"lower" => Some(Call::Edit(Edit::Lower {
-            number: a,
-            mode: b,
-            cost: c,
-        })),
-        b"cut" => Some(Call::Edit(Edit::Cut {
-            number: a,
-            from: b,
-            to: c,
-        })),
-        _ => None,
-    }
-}
+impl TryFrom<&[u8]> for Memory {
+    type Error = NoCall;
 
-/// A call with four numbers.
-pub fn with_four(name: &[u8], a: u32, b: u32, c: u32, d: u32) -> Option<Call>
-    ensures { result ≡ call_of_four name.now a b c d }
-{
-    match name {
-        b"widen" => Some(Call::Edit(Edit::Widen {
-            number: a,
-            from: b,
-            to: c,
-            gap: d,
-        })),
-        _ => None,
-    }
-}
+    ghost try_from_gives = { λ name r. result_ok r ≡ memory_named name.now };
 
-/// A call with five numbers.
-pub fn with_five(name: &[u8], a: u32, b: u32, c: u32, d: u32, e: u32) -> Option<Call>
-    ensures { result ≡ call_of_five name.now a b c d e }
-{
-    match name {
-        b"put" => Some(Call::Edit(Edit::Put {
-            number: a,
-            place: b,
-            cost: c,
-            period: d,
-            deadline: e,
-        })),
-        _ => None,
-    }
-}
-
-/// How much is lent.
-pub fn length_of(name: &[u8]) -> Option<Length>
-    ensures { result ≡ length_named name.now }
-{
-    match name {
-        b"short" => Some(Length::Short),
-        b"fit" => Some(Length::Fit),
-        b"long" => Some(Length::Long),
-        _ => None,
-    }
-}
-
-/// What is lent.
-pub fn memory_of(name: &[u8]) -> Option<Memory>
-    ensures { result ≡ memory_named name.now }
-{
-    match name {
-        b"sheet" => Some(Memory::Sheet),
-        b"list" => Some(Memory::List),
-        b"output" => Some(Memory::Output),
-        _ => None,
+    fn try_from(name: &[u8]) -> Result<Memory, NoCall> {
+        match name {
+            b"sheet" => Ok(Memory::Sheet),
+            b"list" => Ok(Memory::List),
+            b"output" => Ok(Memory::Output),
+            _ => Err(NoCall),
+        }
     }
 }

@@ -1,7 +1,9 @@
 //! The words of a line, and the numbers that they spell.
-ghost use Rattle.std.specs.Prelude.{◌≡◌, ◌≤◌, length, take, option_map, Some, None, IfSome, MatchOption};
-ghost use Rattle.calls.specs.Words.{other, prefix_length, front, behind, number_32};
+ghost use Rattle.std.specs.Prelude.{◌≡◌, ◌==◌, option_map, position};
+ghost use Rattle.calls.specs.Words.{front, behind, number_32};
 ghost use Rattle.calls.specs.Lists.{numbers_in};
+
+use arrayvec::ArrayVec;
 
 /// What stands between two words.
 pub const SPACE: u8 = b' ';
@@ -10,38 +12,24 @@ pub const SPACE: u8 = b' ';
 pub const LINE_FEED: u8 = b'\n';
 
 /// The most numbers of a call.
-pub const NUMBERS: usize = 5;
+const NUMBERS: usize = 5;
 
-/// Whether a byte is another than `end`.
-fn is_other(end: u8, byte: u8) -> bool
-    ensures { result ≡ other end byte }
+/// The place of the first byte `end`, if it comes.
+fn place_of(bytes: &[u8], end: u8) -> Option<usize>
+    ensures { result ≡ position (λ byte. byte == end) bytes.now }
 {
-    byte != end
-}
-
-/// How many bytes stand in front of the first byte `end`; all of them where it does not come.
-pub fn prefix_len(bytes: &[u8], end: u8) -> usize
-    ensures is { result ≡ prefix_length bytes.now end }
-    ensures within { result ≤ length bytes.now }
-{
-    for (len, byte) in bytes.iter().enumerate() {
-        if !is_other(end, *byte) {
-            return len;
-        }
-    }
-    bytes.len()
+    bytes.iter().position(|byte| *byte == end)
 }
 
 /// What stands in front of the first byte `end`, and what follows it, if it comes.
+#[tactic(auto, unfolding(crate::specs::Words::prefix_length))]
 pub fn cut_at(bytes: &[u8], end: u8) -> (&[u8], Option<&[u8]>)
     ensures front { result.0.now ≡ front bytes.now end }
     ensures behind { option_map (λ rest. rest.now) result.1 ≡ behind bytes.now end }
 {
-    let len = prefix_len(bytes, end);
-    if len < bytes.len() {
-        (&bytes[0..len], Some(&bytes[len + 1..]))
-    } else {
-        (bytes, None)
+    match place_of(bytes, end) {
+        Some(len) => (&bytes[..len], Some(&bytes[len + 1..])),
+        None => (bytes, None),
     }
 }
 
@@ -64,26 +52,16 @@ fn number_of(word: &[u8]) -> Option<u32>
     Some(number)
 }
 
-/// The numbers of a line after its first word: how many there are, and the cells that begin with
-/// them.
-pub fn numbers_of(words: Option<&[u8]>) -> Option<(usize, [u32; NUMBERS])>
-    ensures within { IfSome result (λ r. r.0 ≤ 5) }
-    ensures numbers { MatchOption result
-        (numbers_in (option_map (λ w. w.now) words.entry) ≡ None)
-        (λ r. numbers_in (option_map (λ w. w.now) words.entry) ≡ Some (take r.0 r.1)) }
+/// The numbers of a line after its first word, if each word is one and they are not too many.
+pub fn numbers_of(words: Option<&[u8]>) -> Option<ArrayVec<u32, NUMBERS>>
+    ensures { option_map (λ numbers. numbers.items) result ≡ numbers_in (option_map (λ w. w.now) words.entry) }
 {
     let mut left = words;
-    let mut numbers = [0; NUMBERS];
-    for i in 0..NUMBERS {
-        let Some(text) = left else {
-            return Some((i, numbers));
-        };
+    let mut numbers = ArrayVec::new();
+    while let Some(text) = left {
         let (word, more) = cut_at(text, SPACE);
-        numbers[i] = number_of(word)?;
+        numbers.try_push(number_of(word)?).ok()?;
         left = more;
     }
-    match left {
-        None => Some((NUMBERS, numbers)),
-        Some(_) => None,
-    }
+    Some(numbers)
 }
