@@ -1,5 +1,6 @@
 -- Where a refusal of load comes from. Assumes nothing.
-use Rattle.std.specs.Prelude.{List, ℕ, codes}
+use Rattle.std.specs.Prelude.{List, ℕ, ◌++◌, codes, decimal}
+use Rattle.line.specs.Refusals.{number_of}
 use Rattle.line.specs.declared.refusal.Refusal.{Refusal}
 use Rattle.faults.specs.declared.Layer.{Layer}
 use Rattle.faults.specs.declared.Layer.TheVariants as layer
@@ -27,3 +28,8 @@ in_text e = record { refusal = e; layer = layer.Text }
 -- A refusal at a line and its byte place.
 abbrev pub placed : LineFault → ℕ → ℕ → LoadFault
 placed e line place = record { refusal = e.refusal; line = line; place = place; layer = e.layer }
+
+-- A refused load in words: its number, line, byte place and layer.
+abbrev pub fault_words : LoadFault → List ℕ
+fault_words f =
+    codes "refused " ++ (decimal (number_of f.refusal) ++ (codes " " ++ (decimal f.line ++ (codes " " ++ (decimal f.place ++ (codes " " ++ layer_word f.layer))))))

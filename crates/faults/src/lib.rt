@@ -1,12 +1,13 @@
 //! Why a text is refused, and where.
 #![tactic(auto)]
 
-ghost use Rattle.std.specs.Prelude.{◌≡◌};
+ghost use Rattle.std.specs.Prelude.{◌≡◌, Some};
 ghost use Rattle.line.specs.declared.refusal.Refusal.TheVariants.{NoForm as Formless};
-ghost use Rattle.faults.specs.Faults.{layer_word, in_task, in_table, in_text, placed};
+ghost use Rattle.faults.specs.Faults.{layer_word, in_task, in_table, in_text, placed, fault_words};
 
 use forms::form::NoForm;
 use line::refusal::Refusal;
+use std::fmt;
 
 /// The layer that refuses: the text, the table, or one angular task.
 #[derive(Clone, Copy, PartialEq, Eq, Debug)]
@@ -26,6 +27,14 @@ impl Layer {
             Layer::Table => "table",
             Layer::Task => "task",
         }
+    }
+}
+
+impl fmt::Display for Layer {
+    ghost output = { λ layer. Some (layer_word layer) };
+
+    fn fmt<W: fmt::Write>(&self, f: &mut fmt::Formatter<W>) -> fmt::Result {
+        f.write_str(self.word())
     }
 }
 
@@ -51,6 +60,19 @@ pub struct LoadFault {
     pub line: usize,
     pub place: usize,
     pub layer: Layer,
+}
+
+/// A refused load in words: its number, line, byte place and layer.
+impl fmt::Display for LoadFault {
+    ghost output = { λ fault. Some (fault_words fault) };
+
+    fn fmt<W: fmt::Write>(&self, f: &mut fmt::Formatter<W>) -> fmt::Result {
+        let number = self.refusal.number();
+        let line = self.line;
+        let place = self.place;
+        let layer = self.layer;
+        write!(f, "refused {number} {line} {place} {layer}")
+    }
 }
 
 impl From<Refusal> for TaskFault {
