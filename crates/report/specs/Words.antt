@@ -1,28 +1,23 @@
 -- What a report says, byte for byte. Assumes nothing.
-use Rattle.std.specs.Prelude.{◌≡◌, ℕ, zero, suc, ◌⊎◌, List, [], ◌++◌, length, Ok, Err, string_bytes, codes, decimal, Result, String}
+use Rattle.std.specs.Prelude.{◌≡◌, ℕ, zero, suc, ◌⊎◌, List, [], ◌++◌, length, Some, None, Option, Ok, Err, string_bytes, codes, decimal, Result, String}
 use Rattle.std.specs.Option.{unwrap_or}
 use Rattle.std.specs.Result.{result_ok}
 use Rattle.std.specs.declared.alloc.Global.{Global}
 use Rattle.line.specs.Meaning.{task_at, modes_in}
-use Rattle.line.specs.Refusals.{number_of}
 use Rattle.line.specs.declared.refusal.Refusal.{Refusal}
 use Rattle.line.specs.declared.refusal.Refusal.TheVariants.{NoMemory}
 use Rattle.table.specs.Items.{Item, line_of, number_at}
 use Rattle.editor.specs.Desks.{clear, with_tasks}
 use Rattle.bench.specs.State.{State, fresh, edited, after_judge, bound_answer}
-use Rattle.bench.specs.declared.verdict.Verdict.{Verdict}
-use Rattle.bench.specs.declared.verdict.Verdict.TheVariants as verdict
-pub use Rattle.faults.specs.Faults.{layer_word}
+use Rattle.response.specs.declared.Verdict.{Verdict}
+use Rattle.response.specs.Words.{verdict_words}
+pub use Rattle.faults.specs.Faults.{layer_word, fault_words}
 use Rattle.faults.specs.declared.LoadFault.{LoadFault}
 use Rattle.store.specs.Loads.{Reading, Why}
 
 -- A refused text: number, line, byte place and layer.
-abbrev pub refused_text : ℕ → ℕ → ℕ → List ℕ → List ℕ
-refused_text number line place layer =
-    codes "refused " ++ (decimal number ++ (codes " " ++ (decimal line ++ (codes " " ++ (decimal place ++ (codes " " ++ (layer ++ codes "\n")))))))
-
 abbrev pub fault_text : LoadFault → List ℕ
-fault_text f = refused_text (number_of f.refusal) f.line f.place (layer_word f.layer)
+fault_text f = fault_words f ++ codes "\n"
 
 -- A mode's line: the task's number, the mode and its bound.
 abbrev pub mode_text : ℕ → ℕ → ℕ → List ℕ
@@ -47,13 +42,10 @@ abbrev pub tasks_text : State → ℕ → List ℕ
 tasks_text s zero = []
 tasks_text s (suc k) = tasks_text s k ++ task_text s k
 
-abbrev pub over_text : ℕ → ℕ → List ℕ
-over_text task mode = codes "over " ++ (decimal task ++ (codes " " ++ (decimal mode ++ codes "\n")))
-
-abbrev pub verdict_text : Verdict → List ℕ
-verdict_text verdict.None = codes "none\n"
-verdict_text verdict.Fits = codes "fits\n"
-verdict_text (verdict.Over task mode) = over_text task mode
+-- The verdict, and `none` where there is none.
+abbrev pub verdict_text : Option (Verdict ℕ) → List ℕ
+verdict_text None = codes "none\n"
+verdict_text (Some v) = verdict_words v ++ codes "\n"
 
 -- The bounds of every mode, by place and then by mode, and the verdict.
 abbrev pub judged_text : State → List ℕ

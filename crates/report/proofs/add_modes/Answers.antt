@@ -1,4 +1,4 @@
-use Rattle.std.proofs.Common.{string_bytes, ◌∙◌}
+use Rattle.std.proofs.Common.{string_bytes, rules}
 use Rattle.bench.specs.State.{state}
 use Rattle.report.specs.Words.{bound_shown}
 use Rattle.report.proofs.Adding.{more_modes}
@@ -6,6 +6,6 @@ use Rattle.report.proofs.add_modes.Goals as goal
 
 pub loop-mode-preserved : goal.loop-mode-preserved
 loop-mode-preserved c =
-    more_modes c.number_at-task.result (bound_shown (state c.args.bench.now) c.number_at-task.result) c.loop-mode.mode c.bound_shown.result
-    (string_bytes c.args.out.now) (string_bytes c.loop-mode.out) c.as_str.result.now (string_bytes c.push_str.new.self)
-    c.loop-mode.invariant c.bound_shown.ensures (c.as_str.ensures.value ∙ c.in_ok-line.ensures) c.in_ok-push_str.ensures.bytes
+    more_modes c.number_at-task.result (bound_shown (state c.args.bench.now) c.number_at-task.result) c.loop-mode.mode-counter c.bound_shown-bound.result
+    (string_bytes c.args.out.now) (string_bytes c.loop-mode.out) (string_bytes c.writeln.new.self)
+    c.loop-mode.invariant c.bound_shown-bound.ensures (search rules)
