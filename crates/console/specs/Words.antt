@@ -1,12 +1,12 @@
 -- What is written of an answer, byte for byte. Assumes nothing.
-use Rattle.std.specs.Prelude.{ℕ, Bool, true, false, cond, List, [], ◌++◌, Some, None, Ok, Err, codes, decimal, Option, Result}
+use Rattle.std.specs.Prelude.{ℕ, Bool, true, false, List, [], ◌++◌, Some, None, Ok, Err, codes, decimal, Option, Result}
 use Rattle.line.specs.Refusals.{number_of}
 use Rattle.line.specs.declared.refusal.Refusal.{Refusal}
-use Rattle.bench.specs.declared.verdict.Verdict.{Verdict}
-use Rattle.bench.specs.declared.verdict.Verdict.TheVariants as verdict
-use Rattle.faults.specs.Faults.{layer_word}
-use Rattle.faults.specs.declared.LoadFault.{LoadFault}
+use Rattle.response.specs.declared.Verdict.{Verdict}
+use Rattle.response.specs.Words.{verdict_words as words_of_verdict}
+pub use Rattle.faults.specs.Faults.{fault_words}
 use Rattle.console.specs.declared.answer.Walk.{Walk}
+use Rattle.console.specs.declared.answer.Walk.TheVariants as walk
 use Rattle.console.specs.declared.answer.Answer.{Answer}
 use Rattle.console.specs.declared.answer.Answer.TheVariants as answer
 
@@ -43,19 +43,15 @@ played answer.Unknown = false
 abbrev pub refused_words : Refusal → List ℕ
 refused_words e = codes "refused " ++ decimal (number_of e)
 
--- A refused load: number, line, byte place and layer.
-abbrev pub fault_words : LoadFault → List ℕ
-fault_words f =
-    codes "refused " ++ (decimal (number_of f.refusal) ++ (codes " " ++ (decimal f.line ++ (codes " " ++ (decimal f.place ++ (codes " " ++ layer_word f.layer))))))
-
-abbrev pub verdict_words : Verdict → List ℕ
-verdict_words verdict.None = codes "none"
-verdict_words verdict.Fits = codes "fits"
-verdict_words (verdict.Over task mode) = codes "over " ++ (decimal task ++ (codes " " ++ decimal mode))
+-- The verdict that stands, and `none` where there is none.
+abbrev pub verdict_words : Option (Verdict ℕ) → List ℕ
+verdict_words None = codes "none"
+verdict_words (Some v) = words_of_verdict v
 
 -- A shown walk: its work, and whether it is one that fits.
 abbrev pub walk_words : Walk → List ℕ
-walk_words w = cond w.fits (decimal w.work ++ codes " fits") (decimal w.work ++ codes " fails")
+walk_words (walk.Fits work) = decimal work ++ codes " fits"
+walk_words (walk.Fails work) = decimal work ++ codes " fails"
 
 -- The line of an answer, without its line feed; a saved text has lines of its own.
 abbrev pub answer_words : Answer → List ℕ

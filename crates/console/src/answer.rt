@@ -1,18 +1,18 @@
 //! What is answered to a call, and how it is written.
-ghost use Rattle.std.specs.Prelude.{◌≡◌, string_bytes, MatchResult};
-ghost use Rattle.line.specs.declared.refusal.Refusal.TheVariants.{NoMemory};
-ghost use Rattle.console.specs.Words.{answer_of, refusal_in, played, refused_words, fault_words, verdict_words, walk_words, answer_words};
+ghost use Rattle.std.specs.Prelude.{◌≡◌, Some};
+ghost use Rattle.console.specs.declared.answer.Answer.TheVariants.{Refused, Fault};
+ghost use Rattle.console.specs.Words.{answer_of, refusal_in, played, walk_words, answer_words};
 
 use bench::verdict::Verdict;
 use faults::LoadFault;
 use line::refusal::Refusal;
-use std::alloc::Global;
+use std::fmt;
 
-/// A walk that was shown: its work, and whether it is a walk that fits the window.
+/// The work of a walk that was shown, by whether it is a walk that fits the window.
 #[derive(Clone, Copy)]
-pub struct Walk {
-    pub work: u32,
-    pub fits: bool,
+pub enum Walk {
+    Fits(u32),
+    Fails(u32),
 }
 
 /// The answer to a call.
@@ -21,7 +21,8 @@ pub enum Answer {
     /// Accepted.
     Done,
     Number(u32),
-    Verdict(Verdict),
+    /// The verdict, if one stands.
+    Verdict(Option<Verdict>),
     /// The saved text has that many bytes.
     Saved(usize),
     Shown(Walk),
@@ -34,17 +35,35 @@ pub enum Answer {
     Unknown,
 }
 
-impl Answer {
-    /// The answer to a call that only accepts or refuses.
-    pub(crate) fn of(done: Result<(), Refusal>) -> Answer
-        ensures { result ≡ answer_of done }
-    {
+impl From<Refusal> for Answer {
+    ghost from_gives = { λ refusal r. r ≡ Refused refusal };
+
+    fn from(refusal: Refusal) -> Answer {
+        Answer::Refused(refusal)
+    }
+}
+
+impl From<LoadFault> for Answer {
+    ghost from_gives = { λ fault r. r ≡ Fault fault };
+
+    fn from(fault: LoadFault) -> Answer {
+        Answer::Fault(fault)
+    }
+}
+
+/// The answer to a call that only accepts or refuses.
+impl From<Result<(), Refusal>> for Answer {
+    ghost from_gives = { λ done r. r ≡ answer_of done };
+
+    fn from(done: Result<(), Refusal>) -> Answer {
         match done {
             Ok(()) => Answer::Done,
-            Err(refusal) => Answer::Refused(refusal),
+            Err(refusal) => refusal.into(),
         }
     }
+}
 
+impl Answer {
     /// Whether a call was played and not refused.
     pub(crate) fn is_played(self) -> bool
         ensures { result ≡ played self }
@@ -68,59 +87,37 @@ impl Answer {
     }
 }
 
-/// A refused text: number, line, byte place and layer.
-fn fault_words(heap: Global, fault: LoadFault) -> Result<String, Refusal>
-    ensures { MatchResult result (λ s. string_bytes s ≡ fault_words fault) (λ e. e ≡ NoMemory) }
-{
-    let number = fault.refusal.number();
-    let line = fault.line;
-    let place = fault.place;
-    let layer = fault.layer.word();
-    Ok(format!(in heap; "refused {number} {line} {place} {layer}")?)
-}
-
-fn refused_words(heap: Global, refusal: Refusal) -> Result<String, Refusal>
-    ensures { MatchResult result (λ s. string_bytes s ≡ refused_words refusal) (λ e. e ≡ NoMemory) }
-{
-    let number = refusal.number();
-    Ok(format!(in heap; "refused {number}")?)
-}
-
-fn verdict_words(heap: Global, verdict: Verdict) -> Result<String, Refusal>
-    ensures { MatchResult result (λ s. string_bytes s ≡ verdict_words verdict) (λ e. e ≡ NoMemory) }
-{
-    match verdict {
-        Verdict::None => Ok(String::from_str(heap, "none")?),
-        Verdict::Fits => Ok(String::from_str(heap, "fits")?),
-        Verdict::Over { task, mode } => Ok(format!(in heap; "over {task} {mode}")?),
-    }
-}
-
 /// A shown walk: its work, and whether it is one that fits.
-fn walk_words(heap: Global, walk: Walk) -> Result<String, Refusal>
-    ensures { MatchResult result (λ s. string_bytes s ≡ walk_words walk) (λ e. e ≡ NoMemory) }
-{
-    let work = walk.work;
-    if walk.fits {
-        Ok(format!(in heap; "{work} fits")?)
-    } else {
-        Ok(format!(in heap; "{work} fails")?)
+impl fmt::Display for Walk {
+    ghost output = { λ walk. Some (walk_words walk) };
+
+    fn fmt<W: fmt::Write>(&self, f: &mut fmt::Formatter<W>) -> fmt::Result {
+        match self {
+            Walk::Fits(work) => write!(f, "{work} fits"),
+            Walk::Fails(work) => write!(f, "{work} fails"),
+        }
     }
 }
 
 /// The line of an answer, without its line feed. A saved text has lines of its own.
-pub(crate) fn words_of(heap: Global, answer: Answer) -> Result<String, Refusal>
-    ensures { MatchResult result (λ s. string_bytes s ≡ answer_words answer) (λ e. e ≡ NoMemory) }
-{
-    match answer {
-        Answer::Done => Ok(String::from_str(heap, "ok")?),
-        Answer::Number(n) => Ok(format!(in heap; "{n}")?),
-        Answer::Verdict(verdict) => verdict_words(heap, verdict),
-        Answer::Saved(_) => Ok(String::new(heap)),
-        Answer::Shown(walk) => walk_words(heap, walk),
-        Answer::Refused(refusal) => refused_words(heap, refusal),
-        Answer::Fault(fault) => fault_words(heap, fault),
-        Answer::NoDraft => Ok(String::from_str(heap, "no draft")?),
-        Answer::Unknown => Ok(String::from_str(heap, "unknown")?),
+impl fmt::Display for Answer {
+    ghost output = { λ answer. Some (answer_words answer) };
+
+    fn fmt<W: fmt::Write>(&self, f: &mut fmt::Formatter<W>) -> fmt::Result {
+        match self {
+            Answer::Done => f.write_str("ok"),
+            Answer::Number(number) => write!(f, "{number}"),
+            Answer::Verdict(None) => f.write_str("none"),
+            Answer::Verdict(Some(verdict)) => write!(f, "{verdict}"),
+            Answer::Saved(_) => Ok(()),
+            Answer::Shown(walk) => write!(f, "{walk}"),
+            Answer::Refused(refusal) => {
+                let number = refusal.number();
+                write!(f, "refused {number}")
+            }
+            Answer::Fault(fault) => write!(f, "{fault}"),
+            Answer::NoDraft => f.write_str("no draft"),
+            Answer::Unknown => f.write_str("unknown"),
+        }
     }
 }

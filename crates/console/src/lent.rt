@@ -1,11 +1,10 @@
 //! The memory that is lent to the bench. Its cells begin at a pattern, so that those that a call
 //! leaves alone can be told.
-ghost use Rattle.std.specs.Prelude.{◌≡◌, ◌≤◌};
+ghost use Rattle.std.specs.Prelude.{◌≡◌, ◌≤◌, ℕ, map};
 ghost use Rattle.console.specs.Memory.{mixed, digest_of, cells_of, bytes_of};
 
 use calls::call::{Length, Memory};
 use line::limits::{LIST, SHEET};
-use line::refusal::Refusal;
 use std::alloc::{AllocError, Global};
 use store::load::TEXT;
 
@@ -15,8 +14,14 @@ const MORE: usize = 16;
 /// What a digest is multiplied by for each cell.
 const FACTOR: u32 = 16777619;
 
+/// The least byte of a new list.
+const LIST_BYTE: u8 = 200;
+
+/// The least byte of a new output.
+const OUTPUT_BYTE: u8 = 35;
+
 /// The work sheet, the list of a walk and the output.
-#[derive(Drop)]
+#[derive(Clone, PartialEq, Eq, Drop)]
 pub struct Lent {
     pub sheet: Vec<u32>,
     pub list: Vec<u8>,
@@ -36,19 +41,9 @@ fn new_sheet(heap: Global, len: usize) -> Result<Vec<u32>, AllocError> {
 
 /// Bytes from `least` to `least + 6`, again and again.
 fn new_bytes(heap: Global, len: usize, least: u8) -> Result<Vec<u8>, AllocError> {
-    let mut bytes = Vec::with_capacity(heap, len)?;
-    for i in 0..len {
-        bytes.push(least.wrapping_add((i % 7) as u8))?;
-    }
-    Ok(bytes)
-}
-
-fn new_list(heap: Global, len: usize) -> Result<Vec<u8>, AllocError> {
-    new_bytes(heap, len, 200)
-}
-
-fn new_output(heap: Global, len: usize) -> Result<Vec<u8>, AllocError> {
-    new_bytes(heap, len, 35)
+    (0..len)
+        .map(|place| least.wrapping_add((place % 7) as u8))
+        .collect(heap)
 }
 
 /// How many cells are lent of a sheet or a list of which `asked` cells are asked for.
@@ -81,38 +76,49 @@ fn mix(value: u32, cell: u32) -> u32
     value.wrapping_mul(FACTOR).wrapping_add(cell)
 }
 
-/// A digest over cells in their order.
-pub(crate) fn digest(cells: &[u32]) -> u32
-    ensures { result ≡ digest_of cells.now }
-{
-    let mut value: u32 = 1;
-    for i in 0..cells.len() {
-        value = mix(value, cells[i]);
-    }
-    value
+/// A cell of lent memory, which stands for a number.
+pub(crate) trait Cell: Copy {
+    ghost number: { Self → ℕ };
+
+    /// The number.
+    fn number(self) -> u32
+        ensures { result ≡ number self };
 }
 
-/// The digest of bytes.
-pub(crate) fn digest_bytes(bytes: &[u8]) -> u32
-    ensures { result ≡ digest_of bytes.now }
-{
-    let mut value: u32 = 1;
-    for i in 0..bytes.len() {
-        value = mix(value, u32::from(bytes[i]));
+impl Cell for u32 {
+    ghost number = { λ cell. cell };
+
+    fn number(self) -> u32 {
+        self
     }
-    value
+}
+
+impl Cell for u8 {
+    ghost number = { λ byte. byte };
+
+    fn number(self) -> u32 {
+        u32::from(self)
+    }
+}
+
+/// A digest over cells in their order.
+#[tactic(auto, unfolding(crate::specs::Memory::digest_of))]
+pub(crate) fn digest<C: Cell>(cells: &[C]) -> u32
+    ensures { result ≡ digest_of (map C.number cells.now) }
+{
+    cells
+        .iter()
+        .map(|cell| cell.number())
+        .fold(1, |value, number| mix(value, number))
 }
 
 impl Lent {
     /// A sheet and a list of just enough cells, and an output for any text.
-    pub(crate) fn new(heap: Global) -> Result<Lent, Refusal> {
-        let sheet = new_sheet(heap, SHEET)?;
-        let list = new_list(heap, LIST)?;
-        let output = new_output(heap, TEXT)?;
+    pub(crate) fn new(heap: Global) -> Result<Lent, AllocError> {
         Ok(Lent {
-            sheet,
-            list,
-            output,
+            sheet: new_sheet(heap, SHEET)?,
+            list: new_bytes(heap, LIST, LIST_BYTE)?,
+            output: new_bytes(heap, TEXT, OUTPUT_BYTE)?,
         })
     }
 
@@ -123,11 +129,11 @@ impl Lent {
         memory: Memory,
         length: Length,
         text: usize,
-    ) -> Result<(), Refusal> {
+    ) -> Result<(), AllocError> {
         match memory {
             Memory::Sheet => self.sheet = new_sheet(heap, cells_of(length, SHEET))?,
-            Memory::List => self.list = new_list(heap, cells_of(length, LIST))?,
-            Memory::Output => self.output = new_output(heap, bytes_of(length, text))?,
+            Memory::List => self.list = new_bytes(heap, cells_of(length, LIST), LIST_BYTE)?,
+            Memory::Output => self.output = new_bytes(heap, bytes_of(length, text), OUTPUT_BYTE)?,
         }
         Ok(())
     }

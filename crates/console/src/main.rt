@@ -15,75 +15,38 @@ mod walk;
 
 use answer::Answer;
 use anyhow::anyhow;
-use bench::ticket::Draft;
-use calls::list::{Step, first_call};
+use calls::list::{Calls, Step};
 use player::Player;
 use std::io::{Read, Write};
 
-/// Plays the first call of what is left of a list.
-fn play(player: &mut Player, hand: Option<Draft>, first: &Step<'_>) -> (Option<Draft>, Answer) {
-    match first.call {
-        Some(call) => player.play(hand, call, first.text),
-        None => (hand, Answer::Unknown),
-    }
-}
-
-/// Writes an answer.
-fn write(
-    rt: &HostRuntime,
-    player: &mut Player,
-    first: &Step<'_>,
-    answer: Answer,
-) -> anyhow::Result<()> {
-    match player.tell(first.call, answer) {
-        Ok(line) => {
-            rt.stdout().write_all(&line)?;
-            Ok(())
-        }
-        Err(_) => Err(anyhow!("no memory")),
-    }
-}
-
-/// Plays a call and writes its answer. The draft in hand is ended where that fails.
-fn step(
-    rt: &HostRuntime,
-    player: &mut Player,
-    hand: Option<Draft>,
-    first: &Step<'_>,
-) -> anyhow::Result<Option<Draft>> {
-    let (left, answer) = play(player, hand, first);
-    match write(rt, player, first, answer) {
-        Ok(()) => Ok(left),
-        Err(e) => {
-            player.end(left);
-            Err(e)
-        }
-    }
+/// Plays a call, if it is one, and writes its answer.
+fn step(rt: &HostRuntime, player: &mut Player, first: &Step<'_>) -> anyhow::Result<()> {
+    let answer = match first.call {
+        Some(call) => player.play(call, first.text),
+        None => Answer::Unknown,
+    };
+    let line = player
+        .tell(first.call, answer)
+        .map_err(|_| anyhow!("no memory"))?;
+    rt.stdout().write_all(&line)?;
+    Ok(())
 }
 
 /// Plays a whole list.
 fn run(rt: &HostRuntime, player: &mut Player, list: &[u8]) -> anyhow::Result<()> {
-    let mut hand = None;
-    let mut rest = list;
-    for _ in 0..list.len() {
-        if rest.is_empty() {
-            break;
-        }
-        let first = first_call(rest);
-        hand = step(rt, player, hand, &first)?;
-        rest = first.rest;
+    for first in Calls::new(list) {
+        step(rt, player, &first)?;
     }
-    player.end(hand);
     Ok(())
 }
 
 fn start(rt: &HostRuntime) -> anyhow::Result<()> {
     let mut list = Vec::new(rt.alloc());
     rt.stdin().read_to_end(&mut list)?;
-    match Player::new(rt.alloc()) {
-        Ok(mut player) => run(rt, &mut player, &list),
-        Err(_) => Err(anyhow!("no memory")),
-    }
+    let mut player = Player::new(rt.alloc()).map_err(|_| anyhow!("no memory"))?;
+    let done = run(rt, &mut player, &list);
+    player.finish();
+    done
 }
 
 fn main(rt: HostRuntime) -> anyhow::Result<()> {

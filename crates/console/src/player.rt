@@ -1,24 +1,25 @@
 //! A bench with the memory that is lent to it, and the calls on them.
-use crate::answer::{Answer, Walk, words_of};
-use crate::lent::{Lent, digest, digest_bytes};
+use crate::answer::{Answer, Walk};
+use crate::lent::{Lent, digest};
 use crate::seen::Seen;
 use crate::walk::{is_fitting, is_kept, work_of};
 use bench::bench::Bench;
 use bench::ticket::Draft;
-use calls::call::{Call, Drafting, Edit, Question};
+use calls::call::{Call, Drafting, Edit, Length, Memory, Question};
 use line::Line;
 use line::refusal::Refusal;
 use save::save::save;
-use std::alloc::Global;
+use std::alloc::{AllocError, Global};
 use store::load::load;
 
 /// The number of the bench before any is made.
 const BENCH: u32 = 0;
 
-/// A bench, the memory that is lent to it, and what stood after the last accepted call.
-#[derive(Drop)]
+/// A bench, the draft in hand, the memory that is lent to the bench, and what stood after the last
+/// accepted call.
 pub struct Player {
     bench: Bench,
+    hand: Option<Draft>,
     lent: Lent,
     seen: Seen,
     heap: Global,
@@ -31,17 +32,37 @@ impl Player {
         let seen = Seen::new(heap, &bench, &lent)?;
         Ok(Player {
             bench,
+            hand: None,
             lent,
             seen,
             heap,
         })
     }
 
-    /// Ends the draft in hand, if there is one.
-    pub(crate) fn end(&mut self, hand: Option<Draft>) {
-        match hand {
-            Some(draft) => self.bench.abandon(draft),
-            None => {}
+    /// Ends the draft in hand, if there is one, and the player.
+    pub(crate) fn finish(self) {
+        let Player {
+            mut bench,
+            hand,
+            lent: _,
+            seen: _,
+            heap: _,
+        } = self;
+        if let Some(draft) = hand {
+            bench.abandon(draft);
+        }
+    }
+
+    /// Ends the draft in hand, and says whether there was one.
+    fn abandon(&mut self) -> Option<()> {
+        self.bench.abandon(self.hand.take()?);
+        Some(())
+    }
+
+    /// Takes a draft in hand, and ends another that was there.
+    fn hold(&mut self, draft: Draft) {
+        if let Some(other) = self.hand.replace(draft) {
+            self.bench.abandon(other);
         }
     }
 
@@ -88,63 +109,53 @@ impl Player {
     }
 
     /// Opens a draft. One that is in hand, a stranger's, is ended where another is handed out.
-    fn open(&mut self, hand: Option<Draft>, number: u32, place: usize) -> (Option<Draft>, Answer) {
-        match self.bench.open(number, place) {
-            Ok(draft) => {
-                self.end(hand);
-                (Some(draft), Answer::Done)
-            }
-            Err(refusal) => (hand, Answer::Refused(refusal)),
-        }
+    fn open(&mut self, number: u32, place: usize) -> Result<(), Refusal> {
+        let draft = self.bench.open(number, place)?;
+        self.hold(draft);
+        Ok(())
     }
 
     /// Closes the draft in hand; a refused close hands it back.
-    fn close(&mut self, draft: Draft) -> (Option<Draft>, Answer) {
+    fn close(&mut self) -> Answer {
+        let Some(draft) = self.hand.take() else {
+            return Answer::NoDraft;
+        };
         match self.bench.close(draft, &mut self.lent.sheet) {
-            Ok(()) => (None, Answer::Done),
-            Err((draft, refusal)) => (Some(draft), Answer::Refused(refusal)),
+            Ok(()) => Answer::Done,
+            Err((draft, refusal)) => {
+                self.hold(draft);
+                refusal.into()
+            }
         }
     }
 
-    /// A call on the draft in hand.
-    fn with_draft(&mut self, draft: Draft, call: Drafting) -> (Option<Draft>, Answer) {
+    /// A call that opens a draft, or one on the draft in hand.
+    fn drafting(&mut self, call: Drafting) -> Answer {
         match call {
-            Drafting::Open { number, place } => self.open(Some(draft), number, place as usize),
-            Drafting::Mode { cost, deadline } => {
-                let done = self.bench.mode(&draft, cost, deadline);
-                (Some(draft), Answer::of(done))
-            }
-            Drafting::Link { from, to, gap } => {
-                let done = self.bench.link(&draft, from as usize, to as usize, gap);
-                (Some(draft), Answer::of(done))
-            }
-            Drafting::Close => self.close(draft),
-            Drafting::Abandon => {
-                self.bench.abandon(draft);
-                (None, Answer::Done)
-            }
-        }
-    }
-
-    /// A draft's call where no draft is in hand: only one that opens another.
-    fn without_draft(&mut self, call: Drafting) -> (Option<Draft>, Answer) {
-        match call {
-            Drafting::Open { number, place } => self.open(None, number, place as usize),
-            _ => (None, Answer::NoDraft),
-        }
-    }
-
-    fn drafting(&mut self, hand: Option<Draft>, call: Drafting) -> (Option<Draft>, Answer) {
-        match hand {
-            Some(draft) => self.with_draft(draft, call),
-            None => self.without_draft(call),
+            Drafting::Open { number, place } => self.open(number, place as usize).into(),
+            Drafting::Mode { cost, deadline } => match &self.hand {
+                Some(draft) => self.bench.mode(draft, cost, deadline).into(),
+                None => Answer::NoDraft,
+            },
+            Drafting::Link { from, to, gap } => match &self.hand {
+                Some(draft) => self
+                    .bench
+                    .link(draft, from as usize, to as usize, gap)
+                    .into(),
+                None => Answer::NoDraft,
+            },
+            Drafting::Close => self.close(),
+            Drafting::Abandon => match self.abandon() {
+                Some(()) => Answer::Done,
+                None => Answer::NoDraft,
+            },
         }
     }
 
     fn bound(&self, number: u32, mode: usize) -> Answer {
         match self.bench.bound(number, mode) {
             Ok(ticks) => Answer::Number(ticks),
-            Err(refusal) => Answer::Refused(refusal),
+            Err(refusal) => refusal.into(),
         }
     }
 
@@ -156,21 +167,21 @@ impl Player {
                 Answer::Number(self.bench.table().most(place as usize, window))
             }
             Question::Sheet => Answer::Number(digest(&self.lent.sheet)),
-            Question::Output => Answer::Number(digest_bytes(&self.lent.output)),
+            Question::Output => Answer::Number(digest(&self.lent.output)),
         }
     }
 
     fn load(&mut self, text: &[u8]) -> Answer {
         match load(&mut self.bench, text, &mut self.lent.sheet) {
             Ok(()) => Answer::Done,
-            Err(fault) => Answer::Fault(fault),
+            Err(fault) => fault.into(),
         }
     }
 
     fn save(&mut self) -> Answer {
         match save(&self.bench, &mut self.lent.output) {
             Ok(len) => Answer::Saved(len),
-            Err(refusal) => Answer::Refused(refusal),
+            Err(refusal) => refusal.into(),
         }
     }
 
@@ -180,17 +191,15 @@ impl Player {
         let table = self.bench.table();
         match table.place_of(number) {
             Some(place) if len <= list.len() => {
-                let walk = &list[0..len];
-                let fits = is_fitting(table, place, walk, window);
-                Walk {
-                    work: work_of(table, place, walk),
-                    fits: fits && is_kept(list, self.seen.list(), len),
+                let walk = &list[..len];
+                let work = work_of(table, place, walk);
+                if is_fitting(table, place, walk, window) && is_kept(list, self.seen.list(), len) {
+                    Walk::Fits(work)
+                } else {
+                    Walk::Fails(work)
                 }
             }
-            _ => Walk {
-                work: 0,
-                fits: false,
-            },
+            _ => Walk::Fails(0),
         }
     }
 
@@ -200,27 +209,15 @@ impl Player {
             .show(number, window, &mut self.lent.sheet, &mut self.lent.list);
         match shown {
             Ok(len) => Answer::Shown(self.walk(number, window, len)),
-            Err(refusal) => Answer::Refused(refusal),
+            Err(refusal) => refusal.into(),
         }
     }
 
-    /// A call that needs no draft.
-    fn plain(&mut self, call: Call, text: &[u8]) -> Answer {
-        match call {
-            Call::Keep(number) => Answer::of(self.renew(number)),
-            Call::Edit(edit) => Answer::of(self.edit(edit)),
-            Call::Ask(question) => self.ask(question),
-            Call::Load(_) => self.load(text),
-            Call::Save => self.save(),
-            Call::Judge => Answer::Verdict(self.bench.judge()),
-            Call::Show { number, window } => self.show(number, window),
-            Call::Lend(memory, length) => {
-                let text = self.seen.text_len();
-                Answer::of(self.lent.lend(self.heap, memory, length, text))
-            }
-            Call::Whole => Answer::of(self.restore()),
-            Call::Bench(_) | Call::Drafting(_) => Answer::Unknown,
-        }
+    /// Makes one of the memories anew at a length.
+    fn lend(&mut self, memory: Memory, length: Length) -> Result<(), Refusal> {
+        let text = self.seen.text_len();
+        self.lent.lend(self.heap, memory, length, text)?;
+        Ok(())
     }
 
     /// All lent memory as it was at first.
@@ -229,23 +226,23 @@ impl Player {
         Ok(())
     }
 
-    /// Plays a call with the draft in hand, if any. A load brings its text.
-    pub(crate) fn play(
-        &mut self,
-        hand: Option<Draft>,
-        call: Call,
-        text: &[u8],
-    ) -> (Option<Draft>, Answer) {
+    /// Plays a call. A load brings its text.
+    pub(crate) fn play(&mut self, call: Call, text: &[u8]) -> Answer {
         match call {
             Call::Bench(number) => {
-                self.end(hand);
-                (None, Answer::of(self.renew(number)))
+                let _was_there = self.abandon();
+                self.renew(number).into()
             }
-            Call::Drafting(call) => self.drafting(hand, call),
-            call => {
-                let answer = self.plain(call, text);
-                (hand, answer)
-            }
+            Call::Keep(number) => self.renew(number).into(),
+            Call::Edit(edit) => self.edit(edit).into(),
+            Call::Drafting(call) => self.drafting(call),
+            Call::Ask(question) => self.ask(question),
+            Call::Load(_) => self.load(text),
+            Call::Save => self.save(),
+            Call::Judge => Answer::Verdict(Some(self.bench.judge())),
+            Call::Show { number, window } => self.show(number, window),
+            Call::Lend(memory, length) => self.lend(memory, length).into(),
+            Call::Whole => self.restore().into(),
         }
     }
 
@@ -255,40 +252,29 @@ impl Player {
         Ok(())
     }
 
-    /// Adds that a refused call changed something, if it did.
-    fn look_again(&self, out: &mut String) -> Result<(), Refusal> {
-        if !self.seen.stands(self.heap, &self.bench, &self.lent)? {
-            out.push_str(" changed")?;
-        }
-        Ok(())
-    }
-
     /// What is written of an answer, and a look at what the call left.
     pub(crate) fn tell(&mut self, call: Option<Call>, answer: Answer) -> Result<Vec<u8>, Refusal> {
-        let mut out = words_of(self.heap, answer)?;
+        let mut changed = false;
         match answer.refusal() {
             Some(Refusal::NoMemory) => return Err(Refusal::NoMemory),
-            Some(_) => self.look_again(&mut out)?,
+            Some(_) => changed = !self.seen.stands(self.heap, &self.bench, &self.lent)?,
             None => {
                 if answer.is_played() && may_change(call) {
                     self.look()?;
                 }
             }
         }
-        self.written(out, answer)
+        Ok(self.written(answer, changed)?)
     }
 
-    /// The saved text, or the words of another answer and a line feed.
-    fn written(&self, words: String, answer: Answer) -> Result<Vec<u8>, Refusal> {
+    /// The saved text, or the line of another answer, which says whether a refused call changed
+    /// something.
+    fn written(&self, answer: Answer, changed: bool) -> Result<Vec<u8>, AllocError> {
         let output: &[u8] = &self.lent.output;
         match answer {
-            Answer::Saved(len) if len <= output.len() => {
-                Ok(Vec::from_slice(self.heap, &output[0..len])?)
-            }
-            _ => {
-                let line = format!(in self.heap; "{words}\n")?;
-                Ok(Vec::from_slice(self.heap, line.as_bytes())?)
-            }
+            Answer::Saved(len) if len <= output.len() => Vec::from_slice(self.heap, &output[..len]),
+            _ if changed => Ok(format!(in self.heap; "{answer} changed\n")?.into_bytes()),
+            _ => Ok(format!(in self.heap; "{answer}\n")?.into_bytes()),
         }
     }
 }
@@ -296,10 +282,8 @@ impl Player {
 /// Whether a call may change what is looked at.
 fn may_change(call: Option<Call>) -> bool {
     match call {
-        None => false,
-        Some(Call::Ask(_)) => false,
-        Some(Call::Drafting(Drafting::Close)) => true,
-        Some(Call::Drafting(_)) => false,
+        None | Some(Call::Ask(_)) => false,
+        Some(Call::Drafting(call)) => matches!(call, Drafting::Close),
         Some(_) => true,
     }
 }
