@@ -6,6 +6,7 @@ ghost use Rattle.console.specs.Memory.{mixed, digest_of, cells_of, bytes_of};
 use calls::call::{Length, Memory};
 use line::limits::{LIST, SHEET};
 use std::alloc::{AllocError, Global};
+use std::iter;
 use store::load::TEXT;
 
 /// How many cells a long sheet and a long list have above what is asked for.
@@ -13,6 +14,9 @@ const MORE: usize = 16;
 
 /// What a digest is multiplied by for each cell.
 const FACTOR: u32 = 16777619;
+
+/// The first cell of a new sheet.
+const SHEET_CELL: u32 = 3_000_000;
 
 /// The least byte of a new list.
 const LIST_BYTE: u8 = 200;
@@ -30,13 +34,9 @@ pub struct Lent {
 
 /// A sheet of that many cells: 3,000,000, 3,000,007 and so on.
 fn new_sheet(heap: Global, len: usize) -> Result<Vec<u32>, AllocError> {
-    let mut cells = Vec::with_capacity(heap, len)?;
-    let mut cell: u32 = 3000000;
-    for _ in 0..len {
-        cells.push(cell)?;
-        cell = cell.wrapping_add(7);
-    }
-    Ok(cells)
+    iter::successors(Some(SHEET_CELL), |cell| Some(cell.wrapping_add(7)))
+        .take(len)
+        .collect(heap)
 }
 
 /// Bytes from `least` to `least + 6`, again and again.

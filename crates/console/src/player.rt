@@ -54,9 +54,14 @@ impl Player {
     }
 
     /// Ends the draft in hand, and says whether there was one.
-    fn abandon(&mut self) -> Option<()> {
-        self.bench.abandon(self.hand.take()?);
-        Some(())
+    fn end(&mut self) -> bool {
+        match self.hand.take() {
+            Some(draft) => {
+                self.bench.abandon(draft);
+                true
+            }
+            None => false,
+        }
     }
 
     /// Takes a draft in hand, and ends another that was there.
@@ -72,7 +77,8 @@ impl Player {
         Ok(())
     }
 
-    /// A task put in or taken out, or a change of one where it stands.
+    /// A task put in or taken out, or a change of one where it stands. A call's numbers have 32 bits,
+    /// which `as usize` widens where the bench takes a place or a mode.
     fn edit(&mut self, edit: Edit) -> Result<(), Refusal> {
         match edit {
             Edit::Put {
@@ -145,18 +151,15 @@ impl Player {
                 None => Answer::NoDraft,
             },
             Drafting::Close => self.close(),
-            Drafting::Abandon => match self.abandon() {
-                Some(()) => Answer::Done,
-                None => Answer::NoDraft,
-            },
+            Drafting::Abandon if self.end() => Answer::Done,
+            Drafting::Abandon => Answer::NoDraft,
         }
     }
 
     fn bound(&self, number: u32, mode: usize) -> Answer {
-        match self.bench.bound(number, mode) {
-            Ok(ticks) => Answer::Number(ticks),
-            Err(refusal) => refusal.into(),
-        }
+        self.bench
+            .bound(number, mode)
+            .map_or_else(Answer::Refused, Answer::Number)
     }
 
     fn ask(&self, question: Question) -> Answer {
@@ -179,10 +182,7 @@ impl Player {
     }
 
     fn save(&mut self) -> Answer {
-        match save(&self.bench, &mut self.lent.output) {
-            Ok(len) => Answer::Saved(len),
-            Err(refusal) => refusal.into(),
-        }
+        save(&self.bench, &mut self.lent.output).map_or_else(Answer::Refused, Answer::Saved)
     }
 
     /// What is to be told of a walk of so many modes that stands in the list.
@@ -230,7 +230,7 @@ impl Player {
     pub(crate) fn play(&mut self, call: Call, text: &[u8]) -> Answer {
         match call {
             Call::Bench(number) => {
-                let _was_there = self.abandon();
+                self.end();
                 self.renew(number).into()
             }
             Call::Keep(number) => self.renew(number).into(),

@@ -4,11 +4,9 @@ use table::table::Table;
 
 /// The work of a list of modes of the task at a place: the sum of their costs.
 pub(crate) fn work_of(table: &Table, place: usize, walk: &[u8]) -> u32 {
-    let mut work: u32 = 0;
-    for mode in walk {
-        work = work.saturating_add(table.cost(place, usize::from(*mode)));
-    }
-    work
+    walk.iter().fold(0, |work: u32, mode| {
+        work.saturating_add(table.cost(place, usize::from(*mode)))
+    })
 }
 
 /// The sum of the gaps after the first mode, if each mode has one from the mode before.

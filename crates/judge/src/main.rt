@@ -2,17 +2,14 @@
 #![tactic(auto)]
 
 use anyhow::anyhow;
-use line::refusal::Refusal;
 use report::report;
 use std::io::Read;
 
 fn run(rt: &HostRuntime) -> anyhow::Result<()> {
     let mut text = Vec::new(rt.alloc());
     rt.stdin().read_to_end(&mut text)?;
-    match report(rt.alloc(), &text) {
-        Ok(out) => print!(rt; "{out}")?,
-        Err(_) => return Err(anyhow!("no memory")),
-    }
+    let out = report(rt.alloc(), &text).map_err(|_| anyhow!("no memory"))?;
+    print!(rt; "{out}")?;
     Ok(())
 }
 

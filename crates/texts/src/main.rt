@@ -13,10 +13,8 @@ fn run(rt: &HostRuntime) -> anyhow::Result<()> {
     let mut input = Vec::new(rt.alloc());
     rt.stdin().read_to_end(&mut input)?;
     for text in Texts::new(&input) {
-        match report(rt.alloc(), text) {
-            Ok(out) => print!(rt; "{out}")?,
-            Err(_) => return Err(anyhow!("no memory")),
-        }
+        let out = report(rt.alloc(), text).map_err(|_| anyhow!("no memory"))?;
+        print!(rt; "{out}")?;
     }
     Ok(())
 }
