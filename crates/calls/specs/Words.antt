@@ -1,6 +1,6 @@
 -- The words of a line. Assumes nothing.
-use Rattle.std.specs.Prelude.{ℕ, ◌+◌, ◌-◌, ◌*◌, Bool, cond, not, ◌&&◌, List, [], ◌∷◌, length, take, drop, Some, None, Option, ◌==◌, nat_lt}
-use Rattle.std.specs.Char.{is_ascii_digit}
+use Rattle.std.specs.Prelude.{ℕ, ◌+◌, Bool, cond, not, List, length, take, drop, Some, None, Option, ◌==◌, nat_lt}
+use Rattle.forms.specs.Numbers.{digits_up_to}
 use Rattle.std.specs.List.{prefix_len}
 
 -- A byte other than e.
@@ -19,11 +19,6 @@ front bs e = take (prefix_length bs e) bs
 abbrev pub behind : List ℕ → ℕ → Option (List ℕ)
 behind bs e = cond (nat_lt (prefix_length bs e) (length bs)) (Some (drop (prefix_length bs e + 1) bs)) None
 
--- The number that the digits of cs make of n in front of them; nothing where one is no digit or the number is too large for 32 bits.
-abbrev pub digits_32 : ℕ → List ℕ → Option ℕ
-digits_32 n [] = Some n
-digits_32 n (c ∷ cs) = cond (is_ascii_digit c && nat_lt (n * 10 + (c - 48)) 4294967296) (digits_32 (n * 10 + (c - 48)) cs) None
-
 -- The number of 32 bits that a word spells: it has a digit or more, and nothing else.
 abbrev pub number_32 : List ℕ → Option ℕ
-number_32 bs = cond (length bs == 0) None (digits_32 0 bs)
+number_32 bs = cond (length bs == 0) None (digits_up_to 4294967295 0 bs)

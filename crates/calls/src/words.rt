@@ -4,6 +4,7 @@ ghost use Rattle.calls.specs.Words.{front, behind, number_32};
 ghost use Rattle.calls.specs.Lists.{numbers_in};
 
 use arrayvec::ArrayVec;
+use forms::number::digits_up_to;
 
 /// What stands between two words.
 pub const SPACE: u8 = b' ';
@@ -37,19 +38,10 @@ pub fn cut_at(bytes: &[u8], end: u8) -> (&[u8], Option<&[u8]>)
 fn number_of(word: &[u8]) -> Option<u32>
     ensures { result ≡ number_32 word.now }
 {
-    let mut number: u32 = 0;
     if word.is_empty() {
         return None;
     }
-    for byte in word {
-        if !byte.is_ascii_digit() {
-            return None;
-        }
-        number = number
-            .checked_mul(10)?
-            .checked_add(u32::from(*byte - b'0'))?;
-    }
-    Some(number)
+    digits_up_to(u64::from(u32::MAX), word).map(|number| number as u32)
 }
 
 /// The numbers of a line after its first word, if each word is one and they are not too many.

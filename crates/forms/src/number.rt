@@ -1,12 +1,35 @@
 //! How a number is read.
-ghost use Rattle.std.specs.Prelude.{◌≡◌};
-ghost use Rattle.forms.specs.Numbers.{plain, number_of};
+ghost use Rattle.std.specs.Prelude.{◌≡◌, ◌≤◌, IfSome};
+ghost use Rattle.forms.specs.Numbers.{digits_up_to, plain, number_of};
 
 /// The most digits of a number.
 const DIGITS: usize = 6;
 
+/// The largest number of so many digits.
+const LARGEST: u64 = 999_999;
+
 /// The digit that no number of two digits or more begins with.
 const ZERO: u8 = b'0';
+
+/// The number that digits spell, if nothing else stands among them and it is no greater than a limit.
+pub fn digits_up_to(limit: u64, digits: &[u8]) -> Option<u64>
+    ensures number { result ≡ digits_up_to limit 0 digits.now }
+    ensures within { IfSome result (λ n. n ≤ limit) }
+{
+    let mut number: u64 = 0;
+    for byte in digits {
+        if !byte.is_ascii_digit() {
+            return None;
+        }
+        number = number
+            .checked_mul(10)?
+            .checked_add(u64::from(*byte - ZERO))?;
+        if number > limit {
+            return None;
+        }
+    }
+    Some(number)
+}
 
 /// Whether `word` has as many bytes as a number, and no needless zero in front.
 fn is_plain(word: &[u8]) -> bool
@@ -26,12 +49,5 @@ pub fn number_of(word: &[u8]) -> Option<u32>
     if !is_plain(word) {
         return None;
     }
-    let mut number = 0;
-    for byte in word {
-        if !byte.is_ascii_digit() {
-            return None;
-        }
-        number = number * 10 + u32::from(*byte - ZERO);
-    }
-    Some(number)
+    digits_up_to(LARGEST, word).map(|number| number as u32)
 }

@@ -14,10 +14,10 @@ text_read : (m : Option ℕ) (bs : List ℕ) (cut : Cut) → option_and_then (λ
 text_read None bs cut e = absurd (cc)
 text_read (Some n) bs cut e = text_cut n bs cut (nat_lt n (length bs)) e
 
-text_found : (o : Option ℕ) (b : ℕ) (bs : List ℕ) (cut : Cut) → option_and_then (λ k. option_and_then (λ n. text_of n (drop (k + 1) (b ∷ bs))) (number_64 0 (take k (b ∷ bs)))) o ≡ Some cut → length cut.1 ≤ length bs
+text_found : (o : Option ℕ) (b : ℕ) (bs : List ℕ) (cut : Cut) → option_and_then (λ k. option_and_then (λ n. text_of n (drop (k + 1) (b ∷ bs))) (number_64 (take k (b ∷ bs)))) o ≡ Some cut → length cut.1 ≤ length bs
 text_found None b bs cut e = absurd (cc)
 text_found (Some k) b bs cut e =
-    let read = text_read (number_64 0 (take k (b ∷ bs))) (drop (k + 1) (b ∷ bs)) cut e in
+    let read = text_read (number_64 (take k (b ∷ bs))) (drop (k + 1) (b ∷ bs)) cut e in
     omega (arith, read, length-drop (k + 1) (b ∷ bs))
 
 text_passed : (b : ℕ) (bs : List ℕ) (cut : Cut) → first_text (b ∷ bs) ≡ Some cut → length cut.1 ≤ length bs

@@ -3,12 +3,12 @@ use Rattle.std.specs.Prelude.{ℕ, zero, suc, ◌+◌, ◌-◌, ◌*◌, ◌&&�
 use Rattle.std.specs.Borrow.{Bor}
 use Rattle.std.specs.Char.{is_ascii_digit}
 use Rattle.std.specs.Option.{option_and_then}
+use Rattle.forms.specs.Numbers.{digits_up_to}
 use Rattle.texts.specs.declared.input.Texts.{Texts}
 
--- The number that the digits of cs make of n in front of them; nothing where one is no digit or the number is too large for 64 bits.
-abbrev pub number_64 : ℕ → List ℕ → Option ℕ
-number_64 n [] = Some n
-number_64 n (c ∷ cs) = cond (is_ascii_digit c && nat_lt (n * 10 + (c - 48)) (2 ^ 64)) (number_64 (n * 10 + (c - 48)) cs) None
+-- The number of 64 bits that digits spell.
+abbrev pub number_64 : List ℕ → Option ℕ
+number_64 bs = digits_up_to 18446744073709551615 0 bs
 
 -- A text, and what follows it.
 abbrev pub Cut : Type 0
@@ -20,7 +20,7 @@ text_of n bs = cond (nat_lt n (length bs)) (Some (take n bs, drop (n + 1) bs)) N
 
 -- The first text of an input: it follows the line that says its length.
 abbrev pub first_text : List ℕ → Option Cut
-first_text bs = option_and_then (λ k. option_and_then (λ n. text_of n (drop (k + 1) bs)) (number_64 0 (take k bs))) (position (λ b. b == 10) bs)
+first_text bs = option_and_then (λ k. option_and_then (λ n. text_of n (drop (k + 1) bs)) (number_64 (take k bs))) (position (λ b. b == 10) bs)
 
 -- The texts of an input of up to n bytes, up to the first that is not whole.
 abbrev pub texts_within : ℕ → List ℕ → List (List ℕ)

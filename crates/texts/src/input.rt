@@ -3,20 +3,13 @@ ghost use Rattle.std.specs.Prelude.{◌≡◌, ◌==◌, option_map, position};
 ghost use Rattle.std.specs.Iterator.{YieldsFirstBy, item_count};
 ghost use Rattle.texts.specs.Texts.{number_64, first_text, in_two, texts_left, texts_of};
 
+use forms::number::digits_up_to;
+
 /// The number that digits spell.
 fn number_of(digits: &[u8]) -> Option<usize>
-    ensures { result ≡ number_64 0 digits.now }
+    ensures { result ≡ number_64 digits.now }
 {
-    let mut number: usize = 0;
-    for byte in digits {
-        if !byte.is_ascii_digit() {
-            return None;
-        }
-        number = number
-            .checked_mul(10)?
-            .checked_add(usize::from(*byte - b'0'))?;
-    }
-    Some(number)
+    digits_up_to(u64::MAX, digits).map(|number| number as usize)
 }
 
 /// The place of the first line feed.
