@@ -14,7 +14,7 @@ use Rattle.line.proofs.Changing.{told}
 use Rattle.table.specs.Items.{Item, Make, sporadic, angular, blank, line_of, place_of, is_angular, angulars, apart, changed_make, changed_at}
 use Rattle.table.specs.Numbers.{task_numbers}
 use Rattle.table.specs.Tasks.{make_of, item_of}
-use Rattle.table.specs.declared.make.Make.{Make as Kind}
+use Rattle.table.specs.declared.make.Make.{Make as Made}
 use Rattle.table.specs.declared.make.Task.{Task}
 use Rattle.table.proofs.Entering.{holds, holds_cons}
 use Rattle.table.proofs.Reading.{item_there}
@@ -97,7 +97,7 @@ change_there is k c h = elim (cases_lt k (length is)) [
 ]
 
 -- ---- the tasks of the table, once another make of a task was put back where it stood
-module _ (ts gone after : List Task) (k : ℕ) (old : Task) (m : Kind) (c : Change) (b : Bool)
+module _ (ts gone after : List Task) (k : ℕ) (old : Task) (m : Made) (c : Change) (b : Bool)
     (within : k < length ts) (was : old ≡ get_or ts k old) (make : make_of m ≡ changed_make c (make_of old.make))
     (out : gone ≡ remove ts k) (back : after ≡ cond b (insert gone k (record { number = old.number; make = m })) gone) (done : b ≡ true) where
   abbrev new : Task

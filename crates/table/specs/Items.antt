@@ -12,6 +12,8 @@ use Rattle.sporadic.specs.Tasks.{sporadic_task, changed_cost, changed_period}
 use Rattle.angular.specs.Tasks.{angular_task}
 use Rattle.angular.specs.Sheets.{Filled, Kept}
 use Rattle.table.specs.Numbers.{task_numbers}
+use Rattle.table.specs.declared.make.Kind.{Kind}
+use Rattle.table.specs.declared.make.Kind.TheVariants.{Sporadic, Angular}
 
 -- A task's make: sporadic with its cost, period and deadline, or angular with its modes and gaps.
 pub data Make : Type 0 where
@@ -48,6 +50,15 @@ number_at is place = (slice_index_or is place blank).number
 abbrev pub is_angular : Make → Bool
 is_angular (sporadic cost period deadline) = false
 is_angular (angular plan) = true
+
+abbrev pub kind_of : Make → Kind
+kind_of (sporadic cost period deadline) = Sporadic
+kind_of (angular plan) = Angular
+
+-- Whether a task of that kind is angular.
+abbrev pub is_crank : Kind → Bool
+is_crank Sporadic = false
+is_crank Angular = true
 
 -- How many of the tasks are angular.
 abbrev pub angulars : List Item → ℕ

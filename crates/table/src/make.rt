@@ -10,7 +10,14 @@ use sporadic::Sporadic;
 /// The largest number of a task; the least is 1.
 pub const NUMBERS: u32 = 999;
 
-/// The two makes of task.
+/// The two kinds of task.
+#[derive(Clone, Copy, PartialEq, Eq, Debug)]
+pub enum Kind {
+    Sporadic,
+    Angular,
+}
+
+/// A task of either kind.
 #[derive(Drop)]
 pub enum Make {
     Sporadic(Sporadic),

@@ -1,34 +1,40 @@
 //! A task of either make as an exact line of one place.
 ghost use Rattle.std.specs.Prelude.{◌≡◌, ◌≤◌, length, Ok};
-ghost use Rattle.line.specs.Changes.{change_numbers, change_answer};
-ghost use Rattle.table.specs.Items.{task_of, is_angular, changed_make, Leaves};
+ghost use Rattle.line.specs.Changes.{change_answer};
+ghost use Rattle.table.specs.Items.{task_of, kind_of, is_angular, changed_make, Leaves};
 ghost use Rattle.table.specs.Tasks.{make_of};
 ghost use Rattle.line.specs.Meaning.{sole};
 ghost use Rattle.table.specs.Laws.{make_lawful};
 
-use crate::make::Make;
-use line::change::Change;
+use crate::make::{Kind, Make};
+use line::ranged::Ranged;
 use line::refusal::Refusal;
 use line::{ExactLine, Line};
 
 impl Make {
+    /// Which kind of task it is.
+    pub fn kind(&self) -> Kind
+        ensures { result ≡ kind_of (make_of self.now) }
+    {
+        match self {
+            Make::Sporadic(_) => Kind::Sporadic,
+            Make::Angular(_) => Kind::Angular,
+        }
+    }
+
     /// Whether the task is angular.
     pub fn is_angular(&self) -> bool
         ensures { result ≡ is_angular (make_of self.now) }
     {
-        match self {
-            Make::Sporadic(_) => false,
-            Make::Angular(_) => true,
-        }
+        matches!(self, Make::Angular(_))
     }
 
     /// The task after a change that it may undergo; where it is angular, the sheet is filled for it.
-    pub fn changed(self, change: Change, sheet: &mut [u32]) -> Make
-        requires numbers { change_numbers change ≡ Ok tt }
-        requires may { change_answer (task_of (make_of self)).graph change ≡ Ok tt }
+    pub fn changed(self, change: Ranged, sheet: &mut [u32]) -> Make
+        requires may { change_answer (task_of (make_of self)).graph change.change ≡ Ok tt }
         requires room { 16016 ≤ length sheet.old }
-        ensures make { make_of result ≡ changed_make change (make_of self) }
-        ensures leaves { Leaves (changed_make change (make_of self)) sheet.old sheet.new }
+        ensures make { make_of result ≡ changed_make change.change (make_of self) }
+        ensures leaves { Leaves (changed_make change.change (make_of self)) sheet.old sheet.new }
     {
         match self {
             Make::Sporadic(task) => Make::Sporadic(task.changed(change)),

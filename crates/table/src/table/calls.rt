@@ -2,12 +2,12 @@
 ghost use Rattle.std.specs.Prelude.{◌≡◌, ◌<◌, ◌≤◌, [], length, get_or, IfSome, MatchOption, MatchResult, slice_index_or};
 ghost use Rattle.line.specs.Meaning.{task_at, nowhere};
 ghost use Rattle.line.specs.declared.refusal.Refusal.TheVariants.{NoMemory};
-ghost use Rattle.table.specs.Items.{blank, task_of, line_of, place_of, number_at, is_angular, angulars, room_for, enter_answer, enters, InsertDone};
+ghost use Rattle.table.specs.Items.{blank, task_of, line_of, place_of, number_at, is_angular, is_crank, angulars, room_for, enter_answer, enters, InsertDone};
 ghost use Rattle.table.specs.Tables.{items};
 ghost use Rattle.table.specs.Tasks.{item_of};
 
 use super::Table;
-use crate::make::{Task, check_task};
+use crate::make::{Kind, Task, check_task};
 use line::limits::PLACES;
 use line::refusal::Refusal;
 use std::alloc::Global;
@@ -30,12 +30,7 @@ impl Table {
         ensures place { result ≡ place_of number (items self.now) }
         ensures within { IfSome result (λ k. (k < 16) × (k < length (items self.now))) }
     {
-        for (i, t) in self.tasks.iter().enumerate() {
-            if t.bears(number) {
-                return Some(i);
-            }
-        }
-        None
+        self.tasks.iter().position(|t| t.bears(number))
     }
 
     /// The task at a place, if there is one.
@@ -43,44 +38,28 @@ impl Table {
         ensures item { MatchOption result (length (items self.now) ≤ place) (λ t. (place < length (items self.now)) × (item_of t.now ≡ slice_index_or (items self.now) place blank)) }
         ensures task { MatchOption result (task_at (line_of (items self.now)) place ≡ nowhere) (λ t. task_at (line_of (items self.now)) place ≡ task_of (item_of t.now).make) }
     {
-        if place < self.tasks.len() {
-            Some(&self.tasks[place])
-        } else {
-            None
-        }
+        self.tasks.get(place)
     }
 
     /// The number of the task at a place, and 0 where there is none.
     pub fn number_at(&self, place: usize) -> u32
         ensures { result ≡ number_at (items self.now) place }
     {
-        match self.task_at(place) {
-            Some(t) => t.number,
-            None => 0,
-        }
+        self.task_at(place).map_or(0, |t| t.number)
     }
 
     /// Whether the task at a place is angular; where there is none, it is not.
     pub fn is_angular_at(&self, place: usize) -> bool
         ensures { result ≡ is_angular (get_or (items self.now) place blank).make }
     {
-        match self.task_at(place) {
-            Some(t) => t.make.is_angular(),
-            None => false,
-        }
+        self.task_at(place).is_some_and(|t| t.make.is_angular())
     }
 
     /// How many angular tasks there are.
     pub fn angulars(&self) -> usize
         ensures { result ≡ angulars (items self.now) }
     {
-        let mut n = 0;
-        for t in self.tasks.iter() {
-            if t.make.is_angular() {
-                n += 1;
-            }
-        }
-        n
+        self.tasks.iter().filter(|t| t.make.is_angular()).count()
     }
 
     /// How many tasks there are.
@@ -90,21 +69,21 @@ impl Table {
         self.tasks.len()
     }
 
-    /// Whether there is room for one more task, angular or not.
-    pub fn has_room(&self, angular: bool) -> bool
-        ensures { result ≡ room_for (items self.now) angular }
+    /// Whether there is room for one more task of a kind.
+    pub fn has_room(&self, kind: Kind) -> bool
+        ensures { result ≡ room_for (items self.now) (is_crank kind) }
     {
-        if angular && self.angulars() >= ANGULARS {
+        if kind == Kind::Angular && self.angulars() >= ANGULARS {
             return false;
         }
         self.len() < PLACES
     }
 
-    /// Refuses a task that may not enter: there is no room for it, or its number is taken.
-    pub fn may_enter(&self, number: u32, angular: bool) -> Result<(), Refusal>
-        ensures { result ≡ enter_answer (items self.now) number angular }
+    /// Refuses a task that may not enter: there is no room for its kind, or its number is taken.
+    pub fn may_enter(&self, number: u32, kind: Kind) -> Result<(), Refusal>
+        ensures { result ≡ enter_answer (items self.now) number (is_crank kind) }
     {
-        if !self.has_room(angular) {
+        if !self.has_room(kind) {
             return Err(Refusal::NoRoom);
         }
         if self.place_of(number).is_some() {
@@ -117,8 +96,7 @@ impl Table {
     fn takes(&self, task: &Task) -> bool
         ensures { result ≡ enters (items self.now) (item_of task.now) }
     {
-        check_task(task.number, 0).is_ok()
-            && self.may_enter(task.number, task.make.is_angular()).is_ok()
+        check_task(task.number, 0).is_ok() && self.may_enter(task.number, task.make.kind()).is_ok()
     }
 
     /// Puts a task in at a place, or at the end where the place is past it; lower tasks move down.
@@ -130,9 +108,6 @@ impl Table {
             return Err(task);
         }
         let at = place.min(self.tasks.len());
-        match self.tasks.insert(at, task) {
-            Ok(()) => Ok(()),
-            Err(refused) => Err(refused.value),
-        }
+        self.tasks.insert(at, task).map_err(|refused| refused.value)
     }
 }

@@ -1,7 +1,7 @@
 //! Taking a task out of a table, and changing one where it stands.
 ghost use Rattle.std.specs.Prelude.{◌≡◌, ◌<◌, ◌≤◌, length, get_or, Ok, slice_index_or};
 ghost use Rattle.std.specs.List.{remove};
-ghost use Rattle.line.specs.Changes.{change_numbers, change_answer};
+ghost use Rattle.line.specs.Changes.{change_answer};
 ghost use Rattle.line.specs.Meaning.{task_at};
 ghost use Rattle.table.specs.Items.{blank, line_of, place_of, there_answer, without, changed_make, changed_at, Leaves, ChangeDone};
 ghost use Rattle.table.specs.Tables.{items};
@@ -11,6 +11,7 @@ use super::Table;
 use crate::make::Task;
 use line::change::{Change, may_change};
 use line::limits::check_sheet;
+use line::ranged::Ranged;
 use line::refusal::Refusal;
 
 impl Table {
@@ -28,23 +29,18 @@ impl Table {
         ensures answer { result ≡ there_answer (place_of number (items self.old)) }
         ensures after { items self.new ≡ without (items self.old) (place_of number (items self.old)) }
     {
-        match self.place_of(number) {
-            None => Err(Refusal::NotThere),
-            Some(place) => {
-                let _ = self.remove_at(place);
-                Ok(())
-            }
-        }
+        let place = self.place_of(number).ok_or(Refusal::NotThere)?;
+        let _ = self.remove_at(place);
+        Ok(())
     }
 
     /// Changes the task at a place, which may undergo it. The task is taken out and put back, since
     /// a change makes another task of it.
-    fn change_at(&mut self, place: usize, change: Change, sheet: &mut [u32])
-        requires numbers { change_numbers change ≡ Ok tt }
+    fn change_at(&mut self, place: usize, change: Ranged, sheet: &mut [u32])
         requires room { 16016 ≤ length sheet.old }
-        requires may { change_answer (task_at (line_of (items self.old)) place).graph change ≡ Ok tt }
-        ensures items { items self.new ≡ changed_at (items self.old) place change }
-        ensures leaves { Leaves (changed_make change (get_or (items self.old) place blank).make) sheet.old sheet.new }
+        requires may { change_answer (task_at (line_of (items self.old)) place).graph change.change ≡ Ok tt }
+        ensures items { items self.new ≡ changed_at (items self.old) place change.change }
+        ensures leaves { Leaves (changed_make change.change (get_or (items self.old) place blank).make) sheet.old sheet.new }
     {
         let Task { number, make } = self.tasks.remove(place);
         let make = make.changed(change, sheet);
@@ -55,10 +51,10 @@ impl Table {
     pub fn change(&mut self, place: usize, change: Change, sheet: &mut [u32]) -> Result<(), Refusal>
         ensures { ChangeDone (items self.old) place change sheet.old result (items self.new) sheet.new }
     {
-        change.check()?;
+        let ranged = Ranged::new(change)?;
         check_sheet(sheet.len())?;
         may_change(self, place, change)?;
-        self.change_at(place, change, sheet);
+        self.change_at(place, ranged, sheet);
         Ok(())
     }
 }

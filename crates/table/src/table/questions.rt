@@ -20,38 +20,23 @@ impl Line for Table {
     }
 
     fn modes(&self, place: usize) -> usize {
-        match self.task_at(place) {
-            Some(t) => t.make.modes(0),
-            None => 0,
-        }
+        self.task_at(place).map_or(0, |t| t.make.modes(0))
     }
 
     fn cost(&self, place: usize, mode: usize) -> u32 {
-        match self.task_at(place) {
-            Some(t) => t.make.cost(0, mode),
-            None => 0,
-        }
+        self.task_at(place).map_or(0, |t| t.make.cost(0, mode))
     }
 
     fn deadline(&self, place: usize, mode: usize) -> u32 {
-        match self.task_at(place) {
-            Some(t) => t.make.deadline(0, mode),
-            None => 0,
-        }
+        self.task_at(place).map_or(0, |t| t.make.deadline(0, mode))
     }
 
     fn gap(&self, place: usize, from: usize, to: usize) -> Option<u32> {
-        match self.task_at(place) {
-            Some(t) => t.make.gap(0, from, to),
-            None => None,
-        }
+        self.task_at(place).and_then(|t| t.make.gap(0, from, to))
     }
 
     fn most(&self, place: usize, window: u32) -> u32 {
-        match self.task_at(place) {
-            Some(t) => t.make.most(0, window),
-            None => 0,
-        }
+        self.task_at(place).map_or(0, |t| t.make.most(0, window))
     }
 }
 

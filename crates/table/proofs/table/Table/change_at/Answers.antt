@@ -1,8 +1,8 @@
-use Rattle.std.proofs.Common.{◌≡◌, ℕ, ◌+◌, ◌<◌, Bool, true, cond, List, map, length, get_or, is_ok, Ok, vec_items, vec_len, vec_capacity, sym, ap, ◌∙◌, subst, arith}
+use Rattle.std.proofs.Common.{◌≡◌, ℕ, ◌+◌, ◌<◌, Bool, true, cond, List, map, length, get_or, is_ok, Ok, vec_items, vec_len, vec_capacity, ap, ◌∙◌, subst, arith}
 use Rattle.std.specs.List.{insert, remove}
 use Rattle.std.proofs.lemmas.List.{length-map}
 use Rattle.std.proofs.lemmas.Bool.{cond-true}
-use Rattle.line.specs.Meaning.{Task as Asked, task_at}
+use Rattle.line.specs.Meaning.{task_at}
 use Rattle.line.specs.Changes.{change_answer}
 use Rattle.line.specs.declared.change.Change.{Change}
 use Rattle.table.specs.Items.{Item, line_of, apart, angulars, changed_make, changed_at, Leaves}
@@ -12,7 +12,7 @@ use Rattle.table.specs.declared.make.Make.{Make}
 use Rattle.table.specs.declared.make.Task.{Task}
 use Rattle.table.specs.declared.table.Table.{Table}
 use Rattle.table.proofs.Changing.{change_there, items_changed, apart_changed, angulars_changed}
-use Rattle.table.proofs.Reading.{item_there, task_there}
+use Rattle.table.proofs.Reading.{item_there}
 use Rattle.table.proofs.table.Table.change_at.Goals as goal
 
 -- The task that is changed is there.
@@ -22,22 +22,6 @@ inside t place x may =
     let m = length-map (vec_items t.tasks) item_of in
     let l = t.tasks.ok.0 in
     (omega (arith, h, m), omega (arith, h, m, l))
-
-pub remove-number-requires : goal.remove-number-requires
-remove-number-requires c = (inside c.args.self.now c.args.place c.args.change c.requires.may).1
-
-pub changed-make-requires : goal.changed-make-requires
-changed-make-requires c =
-    let t = c.args.self.now in
-    let h = inside t c.args.place c.args.change c.requires.may in
-    let ts = vec_items t.tasks in
-    let m = length-map ts item_of in
-    let e = item_there ts c.args.place c.remove-number.result h.0 c.remove-number.ensures.value in
-    let at = task_there ts c.args.place (item_of c.remove-number.result) (omega (arith, h.0, m)) e in
-    record { numbers = c.requires.numbers; may = ap (λ (a : Asked). change_answer a.graph c.args.change) (sym at) ∙ c.requires.may; room = c.requires.room }
-
-pub insert-requires : goal.insert-requires
-insert-requires c = omega (arith, (inside c.args.self.now c.args.place c.args.change c.requires.may).1, c.remove-number.ensures.len)
 
 -- There is room to put it back, and so the tasks are as they are to be.
 put_back : (t : Table) (place : ℕ) (x : Change) → change_answer (task_at (line_of (items t)) place).graph x ≡ Ok tt
@@ -56,14 +40,14 @@ invariant_of-self c =
     let r = c.remove-number.ensures in
     let i = c.insert.ensures in
     let p =
-    put_back t c.args.place c.args.change c.requires.may (vec_items c.remove-number.new.self) (vec_items c.insert.new.self) (vec_len c.remove-number.new.self) (vec_capacity c.remove-number.new.self)
+    put_back t c.args.place c.args.change.change c.requires.may (vec_items c.remove-number.new.self) (vec_items c.insert.new.self) (vec_len c.remove-number.new.self) (vec_capacity c.remove-number.new.self)
     c.remove-number.result c.changed-make.result (is_ok c.insert.result) r.value c.changed-make.ensures.make r.items r.len r.capacity i.items i.succeeds in
     let n = i.len ∙ cond-true (is_ok c.insert.result) _ (vec_len c.remove-number.new.self) p.1 in
     record {
       few = omega (arith, n, r.len, t.few);
       room = omega (arith, i.capacity, r.capacity, t.room);
-      distinct = ap apart p.0 ∙ apart_changed (items t) c.args.place c.args.change t.distinct;
-      crank = omega (arith, ap angulars p.0, angulars_changed (items t) c.args.place c.args.change, t.crank);
+      distinct = ap apart p.0 ∙ apart_changed (items t) c.args.place c.args.change.change t.distinct;
+      crank = omega (arith, ap angulars p.0, angulars_changed (items t) c.args.place c.args.change.change, t.crank);
     }
 
 pub returns : goal.returns
@@ -72,10 +56,10 @@ returns c =
     let r = c.remove-number.ensures in
     let i = c.insert.ensures in
     let p =
-    put_back t c.args.place c.args.change c.requires.may (vec_items c.remove-number.new.self) (vec_items c.insert.new.self) (vec_len c.remove-number.new.self) (vec_capacity c.remove-number.new.self)
+    put_back t c.args.place c.args.change.change c.requires.may (vec_items c.remove-number.new.self) (vec_items c.insert.new.self) (vec_len c.remove-number.new.self) (vec_capacity c.remove-number.new.self)
     c.remove-number.result c.changed-make.result (is_ok c.insert.result) r.value c.changed-make.ensures.make r.items r.len r.capacity i.items i.succeeds in
-    let e = item_there (vec_items t.tasks) c.args.place c.remove-number.result (inside t c.args.place c.args.change c.requires.may).0 r.value in
+    let e = item_there (vec_items t.tasks) c.args.place c.remove-number.result (inside t c.args.place c.args.change.change c.requires.may).0 r.value in
     record {
       items = p.0;
-      leaves = subst (λ (i : Item). Leaves (changed_make c.args.change i.make) c.args.sheet.now c.changed-make.new.sheet) e c.changed-make.ensures.leaves;
+      leaves = subst (λ (i : Item). Leaves (changed_make c.args.change.change i.make) c.args.sheet.now c.changed-make.new.sheet) e c.changed-make.ensures.leaves;
     }

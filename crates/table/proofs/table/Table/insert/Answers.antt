@@ -1,7 +1,8 @@
-use Rattle.std.proofs.Common.{◌≡◌, ◌<◌, min, true, map, is_ok, vec_items, vec_len, vec_capacity, sym, ap, ◌∙◌, arith}
+use Rattle.std.proofs.Common.{◌≡◌, ℕ, ◌<◌, List, min, true, map, Ok, Err, Result, is_ok, vec_items, vec_len, vec_capacity, sym, ap, ◌∙◌, arith}
 use Rattle.std.specs.List.{insert}
 use Rattle.std.proofs.lemmas.List.{length-map}
-use Rattle.table.specs.Items.{enters}
+use Rattle.std.proofs.lemmas.Bool.{cond-true, false≢true}
+use Rattle.table.specs.Items.{Item, enters, entered, InsertDone}
 use Rattle.table.specs.Tasks.{item_of}
 use Rattle.table.specs.Tables.{items}
 use Rattle.table.specs.declared.make.Task.{Task}
@@ -31,19 +32,17 @@ invariant_of-self c =
       crank = still_few_angulars (vec_items t.tasks) (vec_items c.insert.new.self) c.min-at.result c.args.task (is_ok c.insert.result) c.insert.ensures.items f.0 t.crank;
     }
 
-pub returns-in-Err : goal.returns-in-Err
-returns-in-Err c =
-    let t = c.args.self.now in
-    let f = facts t c.args.task (sym c.takes.ensures ∙ c.if-not-takes.false) in
-    let d = c.in-Err.ensures.succeeds f.1 in
-    absurd (grind (arith, d))
+-- What is put in where there is room is in.
+put_in : (is is' : List Item) (place : ℕ) (i : Item) (r : Result (Unit {0}) Task) → is_ok r ≡ true → enters is i ≡ true → is' ≡ entered is place i → InsertDone is place i is' item_of r
+put_in is is' place i (Ok u) ok may e = (may, e)
+put_in is is' place i (Err x) ok may e = absurd (false≢true ok)
 
-pub returns-in-Ok : goal.returns-in-Ok
-returns-in-Ok c =
-    let ts = vec_items c.args.self.now.tasks in
-    let m = length-map ts item_of in
-    let l = c.args.self.now.tasks.ok.0 in
-    let at = c.min-at.ensures ∙ ap (min c.args.place) (c.len.ensures ∙ l ∙ sym m) in (
-      sym c.takes.ensures ∙ c.if-not-takes.false,
-      ap (map item_of) c.in-Ok.ensures.items ∙ items_inserted ts c.min-at.result c.args.task ∙ ap (λ i. insert (map item_of ts) i (item_of c.args.task)) at,
-    )
+pub returns : goal.returns
+returns c =
+    let t = c.args.self.now in
+    let ts = vec_items t.tasks in
+    let may = sym c.takes.ensures ∙ c.if-not-takes.false in
+    let room : is_ok c.insert.result ≡ true = c.insert.ensures.succeeds (facts t c.args.task may).1 in
+    let at = c.min-at.ensures ∙ ap (min c.args.place) (c.len.ensures ∙ t.tasks.ok.0 ∙ sym (length-map ts item_of)) in
+    put_in (items t) _ c.args.place (item_of c.args.task) c.map_err.result (c.map_err.ensures.variant ∙ room) may
+    (ap (map item_of) (c.insert.ensures.items ∙ cond-true _ _ ts room) ∙ items_inserted ts c.min-at.result c.args.task ∙ ap (λ i. insert (map item_of ts) i (item_of c.args.task)) at)

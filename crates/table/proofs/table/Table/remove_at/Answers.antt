@@ -7,9 +7,6 @@ use Rattle.table.proofs.Changing.{items_removed, apart_removed, angulars_removed
 use Rattle.table.proofs.Reading.{item_there}
 use Rattle.table.proofs.table.Table.remove_at.Goals as goal
 
-pub remove-requires : goal.remove-requires
-remove-requires c = let t = c.args.self.now in omega (arith, c.requires, length-map (vec_items t.tasks) item_of, t.tasks.ok.0)
-
 pub invariant_of-self : goal.invariant_of-self
 invariant_of-self c =
     let t = c.args.self.now in
