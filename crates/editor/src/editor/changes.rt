@@ -14,10 +14,7 @@ impl Editor {
         ensures { result ≡ find_answer (desk self.now) number }
     {
         self.check_idle()?;
-        match self.table.place_of(number) {
-            None => Err(Refusal::NotThere),
-            Some(place) => Ok(place),
-        }
+        self.table.place_of(number).ok_or(Refusal::NotThere)
     }
 
     /// Takes a task out of the table; lower tasks move up.

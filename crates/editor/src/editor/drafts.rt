@@ -1,5 +1,6 @@
 //! The draft of an angular task.
 ghost use Rattle.std.specs.Prelude.{◌≡◌, is_some};
+ghost use Rattle.editor.specs.Drafts.{GraphChanged};
 ghost use Rattle.editor.specs.Desks.{desk, open_answer, OpenDone, mode_answer, after_mode, linking_answer, after_linking, close_answer, CloseDone, undrafted};
 
 use super::{Editor, Sketch};
@@ -7,7 +8,7 @@ use angular::{Angular, new_row};
 use line::limits::check_sheet;
 use line::refusal::Refusal;
 use modes::graph::{ModeGraph, check_link, check_mode};
-use table::make::{Make, Task, check_task};
+use table::make::{Kind, Make, Task, check_task};
 
 impl Editor {
     /// Whether a draft is open.
@@ -22,7 +23,7 @@ impl Editor {
     {
         check_task(number, place)?;
         self.check_idle()?;
-        self.table.may_enter(number, true)
+        self.table.may_enter(number, Kind::Angular)
     }
 
     /// Opens the draft of an angular task that is to stand at a place.
@@ -41,20 +42,32 @@ impl Editor {
         Ok(())
     }
 
+    /// Makes a change of the draft's graph, and answers as it does; without a draft it is refused.
+    fn with_graph<F: FnOnce(&mut ModeGraph) -> Result<(), Refusal>>(
+        &mut self,
+        change: F,
+    ) -> Result<(), Refusal>
+        requires { F.IsAlwaysCallable change }
+        ensures draft { GraphChanged F.FnOnce change self.old.draft result self.new.draft }
+        ensures table { self.new.table ≡ self.old.table }
+    {
+        match self.draft.take() {
+            None => Err(Refusal::NoTicket),
+            Some(mut sketch) => {
+                let answer = change(&mut sketch.graph);
+                self.draft = Some(sketch);
+                answer
+            }
+        }
+    }
+
     /// Adds a mode to the draft.
     pub fn mode(&mut self, cost: u32, deadline: u32) -> Result<(), Refusal>
         ensures answer { result ≡ mode_answer (desk self.old) cost deadline }
         ensures after { desk self.new ≡ after_mode (desk self.old) cost deadline }
     {
         check_mode(cost, deadline)?;
-        match self.draft.take() {
-            None => Err(Refusal::NoTicket),
-            Some(mut sketch) => {
-                let answer = sketch.graph.add(cost, deadline);
-                self.draft = Some(sketch);
-                answer
-            }
-        }
+        self.with_graph(|graph| graph.add(cost, deadline))
     }
 
     /// Links two modes of the draft: the second may follow the first after the gap.
@@ -63,14 +76,7 @@ impl Editor {
         ensures after { desk self.new ≡ after_linking (desk self.old) from to gap }
     {
         check_link(from, to, gap)?;
-        match self.draft.take() {
-            None => Err(Refusal::NoTicket),
-            Some(mut sketch) => {
-                let answer = sketch.graph.link(from, to, gap);
-                self.draft = Some(sketch);
-                answer
-            }
-        }
+        self.with_graph(|graph| graph.link(from, to, gap))
     }
 
     fn may_close(&self, cells: usize) -> Result<(), Refusal>

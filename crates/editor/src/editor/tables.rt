@@ -10,7 +10,7 @@ use line::Line;
 use line::refusal::Refusal;
 use sporadic::Sporadic;
 use std::alloc::Global;
-use table::make::{Make, Task, check_task};
+use table::make::{Kind, Make, Task, check_task};
 use table::table::Table;
 
 impl Editor {
@@ -69,7 +69,7 @@ impl Editor {
         check_task(number, place)?;
         let task = Sporadic::new(cost, period, deadline)?;
         self.check_idle()?;
-        self.table.may_enter(number, false)?;
+        self.table.may_enter(number, Kind::Sporadic)?;
         Ok(task)
     }
 
