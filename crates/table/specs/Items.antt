@@ -56,9 +56,9 @@ kind_of (sporadic cost period deadline) = Sporadic
 kind_of (angular plan) = Angular
 
 -- Whether a task of that kind is angular.
-abbrev pub is_crank : Kind → Bool
-is_crank Sporadic = false
-is_crank Angular = true
+abbrev pub is_angular_kind : Kind → Bool
+is_angular_kind Sporadic = false
+is_angular_kind Angular = true
 
 -- How many of the tasks are angular.
 abbrev pub angulars : List Item → ℕ

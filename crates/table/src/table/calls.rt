@@ -2,7 +2,7 @@
 ghost use Rattle.std.specs.Prelude.{◌≡◌, ◌<◌, ◌≤◌, [], length, get_or, IfSome, MatchOption, MatchResult, slice_index_or};
 ghost use Rattle.line.specs.Meaning.{task_at, nowhere};
 ghost use Rattle.line.specs.declared.refusal.Refusal.TheVariants.{NoMemory};
-ghost use Rattle.table.specs.Items.{blank, task_of, line_of, place_of, number_at, is_angular, is_crank, angulars, room_for, enter_answer, enters, InsertDone};
+ghost use Rattle.table.specs.Items.{blank, task_of, line_of, place_of, number_at, is_angular, is_angular_kind, angulars, room_for, enter_answer, enters, InsertDone};
 ghost use Rattle.table.specs.Tables.{items};
 ghost use Rattle.table.specs.Tasks.{item_of};
 
@@ -71,7 +71,7 @@ impl Table {
 
     /// Whether there is room for one more task of a kind.
     pub fn has_room(&self, kind: Kind) -> bool
-        ensures { result ≡ room_for (items self.now) (is_crank kind) }
+        ensures { result ≡ room_for (items self.now) (is_angular_kind kind) }
     {
         if kind == Kind::Angular && self.angulars() >= ANGULARS {
             return false;
@@ -81,7 +81,7 @@ impl Table {
 
     /// Refuses a task that may not enter: there is no room for its kind, or its number is taken.
     pub fn may_enter(&self, number: u32, kind: Kind) -> Result<(), Refusal>
-        ensures { result ≡ enter_answer (items self.now) number (is_crank kind) }
+        ensures { result ≡ enter_answer (items self.now) number (is_angular_kind kind) }
     {
         if !self.has_room(kind) {
             return Err(Refusal::NoRoom);
