@@ -2,6 +2,7 @@
 -- nothing.
 use Rattle.std.proofs.Common.{◌≡◌, ℕ, ◌<◌, Bool, true, false, cond, not, eqb, leb, is_some, Some, None, Ok, Err, Decides, Option, sym, refl, ◌∙◌, inl, inr, arith}
 use Rattle.std.proofs.lemmas.Bool.{and_parts, and_from, cases_lt, eqb-false, ne_eqb, not-true, not_from_false, cond-true, cond-false, lt-ltb, le-ltb, lt-leb, le-leb}
+use Rattle.std.proofs.lemmas.Option.{none-some}
 use Rattle.std.proofs.lemmas.Bool.Decides.{Decides-below_or, nat_tests}
 use Rattle.line.specs.declared.refusal.Refusal.TheVariants.{NotThere, NotReduced}
 use Rattle.line.specs.declared.change.Change.{Change}
@@ -26,13 +27,10 @@ pub gap_there : (G : Graph) (a b g : ℕ) → gap_of G a b ≡ Some g → (a < G
 gap_there G a b g h = elim (cases_lt a G.modes) [
   | inl la ↦ elim (cases_lt b G.modes) [
     | inl lb ↦ (la, lb, sym (cond-true _ _ _ (lt-ltb _ _ la) ∙ cond-true _ _ _ (lt-ltb _ _ lb)) ∙ h)
-    | inr nb ↦ absurd (none≢some (sym (cond-true _ _ _ (lt-ltb _ _ la) ∙ cond-false _ _ _ (le-ltb _ _ nb)) ∙ h))
+    | inr nb ↦ absurd (none-some g (sym (cond-true _ _ _ (lt-ltb _ _ la) ∙ cond-false _ _ _ (le-ltb _ _ nb)) ∙ h))
   ]
-  | inr na ↦ absurd (none≢some (sym (cond-false _ _ _ (le-ltb _ _ na)) ∙ h))
+  | inr na ↦ absurd (none-some g (sym (cond-false _ _ _ (le-ltb _ _ na)) ∙ h))
 ]
-  where
-    none≢some : None ≡ Some g → ⊥
-    none≢some e = let z : ◌≡◌ {A = ℕ} 0 1 = cc (e) in omega arith
 
 -- What a change that is accepted was told: the mode or link is there, a cost gets smaller, a gap larger, and beside
 -- a link that is struck out another one leaves its mode.
@@ -48,18 +46,18 @@ told G (Lower mode cost) h = elim (cases_lt mode G.modes) [
 ]
   where
     refused : ◌≡◌ {A = Answer} (Err NotThere) (Ok tt) → ⊥
-    refused e = let z : ◌≡◌ {A = ℕ} 0 1 = cc (e) in omega arith
+    refused e = cc (e)
 
     lower_told : ◌≡◌ {A = Answer} (cond (leb (cost_of G mode) cost) (Err NotReduced) (Ok tt)) (Ok tt) → cost_of G mode ≡ G.cost mode → cost < G.cost mode
     lower_told e q = let l : cost < cost_of G mode = grind (arith, nat_tests) in omega (arith, l, q)
 told G (Widen from to gap) h = wide (gap_of G from to) refl h
   where
     wide : (o : Option ℕ) → gap_of G from to ≡ o → widen_answer o gap ≡ Ok tt → Told G (Widen from to gap)
-    wide None e q = let z : ◌≡◌ {A = ℕ} 0 1 = cc (q) in absurd (omega arith)
+    wide None e q = absurd (cc (q))
     wide (Some g) e q = let t = gap_there G from to g e in let l : g < gap = grind (arith, nat_tests) in (g, t.0, t.1, t.2, l)
 told G (Cut from to) h = sole (gap_of G from to) (leads_else G from to G.modes) refl refl h
   where
     sole : (o : Option ℕ) (b : Bool) → gap_of G from to ≡ o → leads_else G from to G.modes ≡ b → cut_answer o b ≡ Ok tt → Told G (Cut from to)
-    sole None b e f q = let z : ◌≡◌ {A = ℕ} 0 1 = cc (q) in absurd (omega arith)
-    sole (Some g) false e f q = let z : ◌≡◌ {A = ℕ} 0 1 = cc (q) in absurd (omega arith)
+    sole None b e f q = absurd (cc (q))
+    sole (Some g) false e f q = absurd (cc (q))
     sole (Some g) true e f q = let t = gap_there G from to g e in (g, t.0, t.1, t.2, (leads_else_lem G from to).0 f)

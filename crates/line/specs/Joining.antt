@@ -36,8 +36,7 @@ show_part m p L P place k window sheet sheet' list list' (Ok n) ok le lt e leave
     (ok, subst (λ t. Shown t window n list list') e done.1, leaves done.2)
 show_part m p L P place k window sheet sheet' list list' (Err x) ok le lt e leaves done =
     let other = show_again m.count place window (length sheet) (length list) p.count k ok le lt in
-    let z : ◌≡◌ {A = ℕ} 0 1 = cc (other, done.0) in
-    absurd (omega arith)
+    absurd (cc (other, done.0))
 
 -- The first line's tasks are those of the joined line, and the second one's lie below them.
 pub at_top : (a b : Meaning) (place : ℕ) → place < a.count → a.at place ≡ (joined a b).at place

@@ -1,6 +1,7 @@
 -- A graph after an accepted change: it is whole if it was, and asks for no more than before. Assumes nothing.
 use Rattle.std.proofs.Common.{◌≡◌, ℕ, ◌+◌, ◌*◌, ◌<◌, ◌≤◌, true, ◌⊎◌, List, length, get_or, set, is_some, is_ok, Some, None, Ok, Err, Option, sym, refl, ap, ◌∙◌, inl, inr, arith, length-set, get_or-set_other, get_or-set_same}
 use Rattle.std.proofs.lemmas.List.{get_or_past}
+use Rattle.std.proofs.lemmas.Option.{none-some, same_Some}
 use Rattle.std.proofs.lemmas.Bool.{cases_eq, cases_lt, false≢true}
 use Rattle.line.specs.Meaning.{Graph, gap_of}
 use Rattle.line.specs.Answers.{Answer}
@@ -13,16 +14,13 @@ use Rattle.modes.specs.Plans.{Plan, blank, graph_of, with_cost, with_link, chang
 use Rattle.modes.specs.declared.graph.Mode.{Mode}
 use Rattle.modes.proofs.Plans.{decides_whole}
 
-none≢some : (g : ℕ) → None ≡ Some g → ⊥
-none≢some g e = let z : ◌≡◌ {A = ℕ} 0 1 = cc (e) in omega arith
-
 opened : (o : Option ℕ) → is_some o ≡ true → (g : ℕ) × (o ≡ Some g)
 opened None h = absurd (false≢true h)
 opened (Some g) h = (g, refl)
 
 -- Where a gap is read there is a cell.
 cell_there : (gaps : List (Option ℕ)) (k g : ℕ) → get_or gaps k None ≡ Some g → k < length gaps
-cell_there gaps k g e = elim (cases_lt k (length gaps)) [ inl h ↦ h | inr h ↦ absurd (none≢some g (sym (get_or_past gaps k None h) ∙ e)) ]
+cell_there gaps k g e = elim (cases_lt k (length gaps)) [ inl h ↦ h | inr h ↦ absurd (none-some g (sym (get_or_past gaps k None h) ∙ e)) ]
 
 -- ---- another cost
 module _ (p : Plan) (mode cost : ℕ) (lm : mode < length p.modes) (less : cost < (graph_of p).cost mode) where
@@ -96,18 +94,15 @@ module _ (p : Plan) (from to old : ℕ) (gap : Option ℕ) (stands : (graph_of p
       leads : (a : ℕ) → a < (graph_of p).modes → (b : ℕ) × (b < (graph_of p).modes) × (is_some (H.gap a b) ≡ true)
       leads a h = elim (cases_eq a from) [ inl e ↦ at a (w.leads a h) e | inr n ↦ away a (w.leads a h) n ]
 
-some≡ : (a b : ℕ) → Some a ≡ Some b → a ≡ b
-some≡ a b e = cc (e)
-
 -- A change that is accepted asks for no more.
 pub changed_lighter : (p : Plan) (c : Change) → change_answer (graph_of p) c ≡ Ok tt → Lightened (graph_of (changed_plan c p)) (graph_of p)
 changed_lighter p (Lower mode cost) h = let t = told (graph_of p) (Lower mode cost) h in cost_lighter p mode cost t.0 t.1
 changed_lighter p (Widen from to gap) h =
     let t = told (graph_of p) (Widen from to gap) h in
-    link_lighter p from to t.0 (Some gap) t.3 (λ k e. omega (arith, some≡ gap k e, t.4))
+    link_lighter p from to t.0 (Some gap) t.3 (λ k e. omega (arith, same_Some gap k e, t.4))
 changed_lighter p (Cut from to) h =
     let t = told (graph_of p) (Cut from to) h in
-    link_lighter p from to t.0 None t.3 (λ k e. absurd (none≢some k e))
+    link_lighter p from to t.0 None t.3 (λ k e. absurd (none-some k e))
 
 whole_changed : (p : Plan) (c : Change) → length p.modes ≤ 16 → change_answer (graph_of p) c ≡ Ok tt → Whole (graph_of p) → Whole (graph_of (changed_plan c p))
 whole_changed p (Lower mode cost) few h w = let t = told (graph_of p) (Lower mode cost) h in cost_whole p mode cost t.0 t.1 w

@@ -1,5 +1,6 @@
 -- A sporadic task after an accepted change asks for no more than before. Assumes nothing.
-use Rattle.std.proofs.Common.{◌≡◌, ℕ, suc, ◌+◌, ◌-◌, ◌≤◌, Some, Ok, refl, suc-mul, div-lt_iff_lt-mul, mul-le-mul, mul-le-mul_left, arith}
+use Rattle.std.proofs.Common.{◌≡◌, ℕ, suc, ◌+◌, ◌-◌, ◌≤◌, Ok, refl, suc-mul, div-lt_iff_lt-mul, mul-le-mul, mul-le-mul_left, arith}
+use Rattle.std.proofs.lemmas.Option.{same_Some}
 use Rattle.line.specs.Lighter.{Eased}
 use Rattle.line.specs.Changes.{change_answer}
 use Rattle.line.specs.declared.change.Change.{Change}
@@ -17,12 +18,9 @@ releases_rarer w t u h le =
     let b = (div-lt_iff_lt-mul {x = w + (u - 1)} {y = suc r} lu).1 (omega (arith, a, m, h, le, suc-mul r t, suc-mul r u)) in
     omega (arith, b)
 
-some≡ : (a b : ℕ) → Some a ≡ Some b → a ≡ b
-some≡ a b e = cc (e)
-
 eased : (c t d c' t' : ℕ) → 1 ≤ t → c' ≤ c → t ≤ t' → Eased (sporadic_task c' t' d) (sporadic_task c t d)
 eased c t d c' t' h lc lt = record {
-  graph = record { lighter = record { same = refl; cheaper = λ m. lc; rarer = λ a b k e. (t, refl, omega (arith, lt, some≡ t' k e)) }; due = λ m. refl };
+  graph = record { lighter = record { same = refl; cheaper = λ m. lc; rarer = λ a b k e. (t, refl, omega (arith, lt, same_Some t' k e)) }; due = λ m. refl };
   most = λ w hw. mul-le-mul lc (releases_rarer w t t' h lt);
 }
 
@@ -30,5 +28,5 @@ pub changed_eased : (c t d : ℕ) (x : Change) → 1 ≤ t → change_answer (sp
 changed_eased c t d (Lower mode cost) h e = eased c t d cost t h (omega (arith, (told (sporadic_task c t d).graph (Lower mode cost) e).1)) (omega arith)
 changed_eased c t d (Widen from to gap) h e =
     let k = told (sporadic_task c t d).graph (Widen from to gap) e in
-    eased c t d c gap h (omega arith) (omega (arith, some≡ t k.0 k.3, k.4))
+    eased c t d c gap h (omega arith) (omega (arith, same_Some t k.0 k.3, k.4))
 changed_eased c t d (Cut from to) h e = eased c t d c t h (omega arith) (omega arith)
