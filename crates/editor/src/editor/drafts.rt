@@ -51,13 +51,9 @@ impl Editor {
         ensures draft { GraphChanged F.FnOnce change self.old.draft result self.new.draft }
         ensures table { self.new.table ≡ self.old.table }
     {
-        match self.draft.take() {
+        match &mut self.draft {
             None => Err(Refusal::NoTicket),
-            Some(mut sketch) => {
-                let answer = change(&mut sketch.graph);
-                self.draft = Some(sketch);
-                answer
-            }
+            Some(sketch) => change(&mut sketch.graph),
         }
     }
 

@@ -1,4 +1,4 @@
-use Rattle.std.proofs.Common.{◌≡◌, Some, Option, sym, refl, ◌∙◌, subst}
+use Rattle.std.proofs.Common.{Some, Option, sym, refl, subst}
 use Rattle.std.specs.Fn.{FnOnceReturnsAtMut}
 use Rattle.editor.specs.Drafts.{GraphChanged}
 use Rattle.editor.specs.declared.editor.Sketch.{Sketch}
@@ -7,8 +7,7 @@ use Rattle.editor.proofs.editor.Editor.with_graph.Goals as goal
 pub returns-in-Some-clause-draft : goal.returns-in-Some-clause-draft
 returns-in-Some-clause-draft g c =
     let old = c.in-Some.sketch in
-    let graph = c.change-answer.new.arg2 in
-    let is : c.args.self.now.draft ≡ Some old = sym c.take.ensures.value ∙ c.in-Some.is in
-    let told : FnOnceReturnsAtMut g.F.FnOnce c.args.change old.graph c.change-answer.result graph = record { shown = _; shows = refl; left = _; met = c.change-answer.ensures; leaves = refl } in
+    let graph = c.change.new.arg2 in
+    let told : FnOnceReturnsAtMut g.F.FnOnce c.args.change old.graph c.change.result graph = record { shown = _; shows = refl; left = _; met = c.change.ensures; leaves = refl } in
     let after : Option Sketch = Some (record { number = old.number; place = old.place; graph = graph; row = old.row }) in
-    subst (λ (d : Option Sketch). GraphChanged g.F.FnOnce c.args.change d c.change-answer.result after) (sym is) (graph, told, refl)
+    subst (λ (d : Option Sketch). GraphChanged g.F.FnOnce c.args.change d c.change.result after) (sym c.in-Some.is) (graph, told, refl)
