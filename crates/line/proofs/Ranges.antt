@@ -1,8 +1,8 @@
--- Tests of each number below another, from the highest down, against `any` and `all` over the range. Assumes nothing.
-use Rattle.std.proofs.Common.{◌≡◌, ℕ, zero, suc, ◌+◌, Bool, true, false, ◌&&◌, ◌||◌, [], ◌∷◌, ◌++◌, sym, refl, ap, ◌∙◌, zero-add, add-one}
-use Rattle.std.specs.List.{range_with_len, list_any, list_all}
+-- Tests of each number below another, from the highest down, against `any` over the range. Assumes nothing.
+use Rattle.std.proofs.Common.{◌≡◌, ℕ, zero, suc, ◌+◌, Bool, true, false, ◌||◌, [], ◌∷◌, ◌++◌, sym, refl, ap, ◌∙◌, zero-add, add-one}
+use Rattle.std.specs.List.{range_with_len, list_any}
 use Rattle.std.proofs.lemmas.List.{map-id}
-use Rattle.std.proofs.lemmas.List.Folds.{list_any-append, list_all-append}
+use Rattle.std.proofs.lemmas.List.Folds.{list_any-append}
 use Rattle.std.proofs.lemmas.List.FromFn.{map-range_with_len_more}
 
 one_more : (n : ℕ) → range_with_len 0 (suc n) ≡ range_with_len 0 n ++ n ∷ []
@@ -16,21 +16,8 @@ any_turned true false = refl
 any_turned false true = refl
 any_turned false false = refl
 
-all_turned : (x y : Bool) → (y && (x && true)) ≡ (x && y)
-all_turned true true = refl
-all_turned true false = refl
-all_turned false true = refl
-all_turned false false = refl
-
-module _ (p q : ℕ → Bool) where
-  pub any_below : q 0 ≡ false → ((k : ℕ) → q (suc k) ≡ (p k || q k)) → (n : ℕ) → list_any p (range_with_len 0 n) ≡ q n
-  any_below none more zero = sym none
-  any_below none more (suc n) =
-      ap (list_any p) (one_more n) ∙ list_any-append p (range_with_len 0 n) (n ∷ []) ∙ any_turned (p n) (list_any p (range_with_len 0 n))
-      ∙ ap (λ b. p n || b) (any_below none more n) ∙ sym (more n)
-
-  pub all_below : q 0 ≡ true → ((k : ℕ) → q (suc k) ≡ (p k && q k)) → (n : ℕ) → list_all p (range_with_len 0 n) ≡ q n
-  all_below none more zero = sym none
-  all_below none more (suc n) =
-      ap (list_all p) (one_more n) ∙ list_all-append p (range_with_len 0 n) (n ∷ []) ∙ all_turned (p n) (list_all p (range_with_len 0 n))
-      ∙ ap (λ b. p n && b) (all_below none more n) ∙ sym (more n)
+pub any_below : (p q : ℕ → Bool) → q 0 ≡ false → ((k : ℕ) → q (suc k) ≡ (p k || q k)) → (n : ℕ) → list_any p (range_with_len 0 n) ≡ q n
+any_below p q none more zero = sym none
+any_below p q none more (suc n) =
+    ap (list_any p) (one_more n) ∙ list_any-append p (range_with_len 0 n) (n ∷ []) ∙ any_turned (p n) (list_any p (range_with_len 0 n))
+    ∙ ap (λ b. p n || b) (any_below p q none more n) ∙ sym (more n)

@@ -5,8 +5,7 @@ use Rattle.std.proofs.lemmas.List.Recursion.{is_sum_by}
 use Rattle.std.specs.Option.{option_map}
 use Rattle.std.proofs.lemmas.List.{map-append, take-map, drop-map, get_or-map}
 use Rattle.std.proofs.lemmas.Bool.{cases_lt, cond-true, cond-false, lt-ltb, le-ltb}
-use Rattle.line.specs.Meaning.{task_at}
-use Rattle.table.specs.Items.{Item, blank, task_of, line_of, place_of, is_angular, angulars}
+use Rattle.table.specs.Items.{blank, place_of, is_angular, angulars}
 use Rattle.table.specs.Tasks.{make_of, item_of}
 use Rattle.table.specs.declared.make.Task.{Task}
 
@@ -14,12 +13,8 @@ pub items_inserted : (ts : List Task) (i : ℕ) (t : Task) → map item_of (inse
 items_inserted ts i t = simp (map-append, take-map, drop-map)
 
 -- the task read at a place
-module _ (ts : List Task) (k : ℕ) where
-  pub item_there : (t : Task) → k < length ts → t ≡ get_or ts k t → item_of t ≡ get_or (map item_of ts) k blank
-  item_there t h e = ap item_of e ∙ sym (get_or-map item_of ts k t blank h)
-
-  pub task_there : (i : Item) → k < length (map item_of ts) → i ≡ get_or (map item_of ts) k blank → task_at (line_of (map item_of ts)) k ≡ task_of i.make
-  task_there i h e = cond-true _ _ _ (lt-ltb k (length (map item_of ts)) h) ∙ ap (λ j. task_of j.make) (sym e)
+pub item_there : (ts : List Task) (k : ℕ) (t : Task) → k < length ts → t ≡ get_or ts k t → item_of t ≡ get_or (map item_of ts) k blank
+item_there ts k t h e = ap item_of e ∙ sym (get_or-map item_of ts k t blank h)
 
 -- the first of two parts at which a test passes, and of the whole
 one_first : (b : Bool) (k l : ℕ) → cond (ltb (cond (not b) (1 + k) 0) (suc l)) (Some (cond (not b) (1 + k) 0)) None ≡ cond b (Some 0) (option_map suc (cond (ltb k l) (Some k) None))
