@@ -16,7 +16,7 @@ items_inserted ts i t = simp (map-append, take-map, drop-map)
 pub item_there : (ts : List Task) (k : ℕ) (t : Task) → k < length ts → t ≡ get_or ts k t → item_of t ≡ get_or (map item_of ts) k blank
 item_there ts k t h e = ap item_of e ∙ sym (get_or-map item_of ts k t blank h)
 
--- the first of two parts at which a test passes, and of the whole
+-- where the first element that passes stands, once an element was put in front
 one_first : (b : Bool) (k l : ℕ) → cond (ltb (cond (not b) (1 + k) 0) (suc l)) (Some (cond (not b) (1 + k) 0)) None ≡ cond b (Some 0) (option_map suc (cond (ltb k l) (Some k) None))
 one_first true k l = cond-true _ (Some 0) None (lt-ltb 0 (suc l) (omega arith))
 one_first false k l = elim (cases_lt k l) [
