@@ -1,7 +1,7 @@
 -- What the next modes offer, and the greatest of it. Assumes nothing.
 use Rattle.std.proofs.Common.{◌≡◌, ℕ, zero, suc, ◌+◌, ◌-◌, ◌<◌, ◌≤◌, max, map, ltb, List, [], ◌∷◌, length, fold, Some, None, Option, MatchOption, IfSome, unwrap_or, Bor, true, false, sym, refl, ap, ◌∙◌, subst, inl, inr, arith}
 use Rattle.std.specs.Fn.{Called, CalledAt}
-use Rattle.std.specs.Iterator.Runs.{Run, AnyItem, NoKeyBeyond, ItemsCountDown}
+use Rattle.std.specs.Iterator.Runs.{Run, AnyItem, NoKeyBeyond, ItemsCountDown, IsIdenticalRun}
 use Rattle.std.specs.List.{reduce, range_with_len}
 use Rattle.std.specs.Ordering.{is_gt, nat_cmp}
 use denote.Param.Members.{Mut}
@@ -44,7 +44,7 @@ module _ (p : Plan) (F : ℕ → ℕ → ℕ) (m w : ℕ) (from : m < length p.m
 
 -- The item with the greatest key, of the numbers below n: no key is greater.
 module _ {S F : Type 0} {steps : S → Option ℕ → S → Type 0} (p : Run steps) (g : Mut F (Bor ℕ × Unit {0}) ℕ) (f : F) (n : ℕ) (key : ℕ → ℕ) where
-  pub top_key : ((a : Bor ℕ × Unit {0}) (r : ℕ) (f' : F) → Called g f a r f' → (f' ≡ f) × (r ≡ key a.0.now))
+  top_key : ((a : Bor ℕ × Unit {0}) (r : ℕ) (f' : F) → Called g f a r f' → (f' ≡ f) × (r ≡ key a.0.now))
       → ((x : ℕ) → x < n → (k : ℕ) × (p.at k ≡ Some x))
       → (r : Option ℕ) → MatchOption r (p.len ≡ 0) (λ m. AnyItem p (λ x. x ≡ m) × NoKeyBeyond p g f is_gt nat_cmp m)
       → MatchOption r (p.len ≡ 0) (λ m. (x : ℕ) → x < n → key x ≤ key m)
@@ -58,7 +58,7 @@ module _ {S F : Type 0} {steps : S → Option ℕ → S → Type 0} (p : Run ste
       omega (arith, le_from_not_gt a.0 no.0 a.2, mine, its, ap key no.1.shows, ap key a.1.shows)
 
 -- The numbers below n, from the last one down.
-pub down_items : {back : Range ℕ → Option ℕ → Range ℕ → Type 0} (q : Run back) (at : ℕ → Option ℕ) (n : ℕ) → q.from.start ≡ 0 → q.from.end ≡ n → q.whole ≡ true → ((k : ℕ) → q.at k ≡ at k) → ItemsCountDown q q.from.start q.from.end
+down_items : {back : Range ℕ → Option ℕ → Range ℕ → Type 0} (q : Run back) (at : ℕ → Option ℕ) (n : ℕ) → q.from.start ≡ 0 → q.from.end ≡ n → q.whole ≡ true → ((k : ℕ) → q.at k ≡ at k) → ItemsCountDown q q.from.start q.from.end
     → (x : ℕ) → x < n → (k : ℕ) × (at k ≡ Some x)
 down_items q at n start end whole same down x lt =
     let long = down.1 whole in
@@ -68,9 +68,21 @@ down_items q at n start end whole same down x lt =
     )
 
 -- What the greatest key says of the number that is taken, and of the first one where there is none.
-pub top_of : (n len : ℕ) (key : ℕ → ℕ) (r : Option ℕ) → 1 ≤ n → len ≡ n → MatchOption r (len ≡ 0) (λ m. (x : ℕ) → x < n → key x ≤ key m) → (x : ℕ) → x < n → key x ≤ key (unwrap_or r 0)
+top_of : (n len : ℕ) (key : ℕ → ℕ) (r : Option ℕ) → 1 ≤ n → len ≡ n → MatchOption r (len ≡ 0) (λ m. (x : ℕ) → x < n → key x ≤ key m) → (x : ℕ) → x < n → key x ≤ key (unwrap_or r 0)
 top_of n len key None some long h x lt = absurd (omega arith)
 top_of n len key (Some m) some long h x lt = h x lt
+
+-- What is taken of the numbers below n, gone through from the last one down, has the greatest key.
+pub top_taken : {S F : Type 0} {steps : S → Option ℕ → S → Type 0} {back : Range ℕ → Option ℕ → Range ℕ → Type 0} (p : Run steps) (q : Run back) (g : Mut F (Bor ℕ × Unit {0}) ℕ) (f : F) (n : ℕ) (key : ℕ → ℕ) → 1 ≤ n
+    → ((a : Bor ℕ × Unit {0}) (r : ℕ) (f' : F) → Called g f a r f' → (f' ≡ f) × (r ≡ key a.0.now))
+    → p.whole ≡ true → IsIdenticalRun p q → q.from.start ≡ 0 → q.from.end ≡ n → ItemsCountDown q q.from.start q.from.end
+    → (r : Option ℕ) → MatchOption r (p.len ≡ 0) (λ m. AnyItem p (λ x. x ≡ m) × NoKeyBeyond p g f is_gt nat_cmp m)
+    → (b : ℕ) → b ≡ unwrap_or r 0 → (x : ℕ) → x < n → key x ≤ key b
+top_taken p q g f n key some calls whole same start end down r h b taken x lt =
+    let long = down.1 (same.1 ∙ whole) in
+    let len = same.0.0 in
+    let top = top_key p g f n key calls (down_items q p.at n start end (same.1 ∙ whole) same.0.2 down) r h in
+    subst (λ k. key x ≤ key k) (sym taken) (top_of n p.len key r some (omega arith) top x lt)
 
 -- What is left after a gap, and what is offered over it.
 left_gap : (o : Option ℕ) (w u : ℕ) → Some u ≡ left o w → (g : ℕ) × (o ≡ Some g) × (g < w) × (u ≡ w - g)

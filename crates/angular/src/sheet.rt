@@ -42,6 +42,7 @@ impl<'a> Sheet<'a> {
         requires { w ≤ 1000 }
         ensures { result ≡ offer (gap_at (plan self.now.graph.now) m b) w (cell_at self.now.cells.now b) }
     {
+        // Not by `map_or`: of what its closure returns a proof learns nothing.
         let Some(left) = self.left(m, w, b) else {
             return 0;
         };

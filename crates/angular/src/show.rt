@@ -33,6 +33,7 @@ impl<'a> FilledSheet<'a> {
     }
 
     /// The first mode whose cell of a window is the greatest.
+    // Of equal keys the last one is taken, so the modes are gone through from the last one down.
     fn start(&self, w: usize) -> usize
         requires { w ≤ 1000 }
         ensures mode { result < length (plan self.now.sheet.graph.now).modes }
@@ -86,6 +87,7 @@ impl<'a> FilledSheet<'a> {
         requires cells { 1000 ≤ length list.old }
         ensures { Shown (angular_task (plan self.now.sheet.graph.now)) window result list.old list.new }
     {
+        // Not by `then`: of what its closure returns a proof learns nothing.
         let mut at = if window > 0 {
             Some((self.start(window), window))
         } else {

@@ -8,7 +8,7 @@ use crate::search::least;
 use line::Line;
 use line::limits::WINDOWS;
 
-/// A place of a line, and what the places above it can ask for.
+/// The row of a place: what the places above it can ask for.
 #[derive(Drop)]
 pub struct Row<'a, L: Line> {
     /// The line.
@@ -23,7 +23,7 @@ pub struct Row<'a, L: Line> {
 }
 
 impl<'a, L: Line> Row<'a, L> {
-    /// The first place of a line: no place is above it.
+    /// The row of the first place of a line: no place is above it.
     pub fn first(line: &'a L) -> Row<'a, L>
         requires { L.lawful line.now }
         ensures line { result.line.now ≡ line.now }
@@ -36,7 +36,7 @@ impl<'a, L: Line> Row<'a, L> {
         }
     }
 
-    /// A place, which is this one or the next.
+    /// The row of a place, which is this one's or the next one's.
     pub fn reach(self, place: usize) -> Row<'a, L>
         requires from { self.place ≤ place }
         requires near { place ≤ self.place + 1 }
@@ -51,7 +51,7 @@ impl<'a, L: Line> Row<'a, L> {
         }
     }
 
-    /// The next place: the one that is left is above it.
+    /// The row of the next place: the work of the one that is left is added.
     fn next(self) -> Row<'a, L>
         requires { self.place < 16 }
         ensures line { result.line.now ≡ self.entry.line.now }
