@@ -117,9 +117,6 @@ module _ (p : Plan) (s : GraphLaws (graph_of p)) (sheet : List ℕ) (full : Fill
       (omega arith, subst (λ v. Sofar (graph_of p) (cell_at sheet) W v [] m W) top on, λ k l. refl)
 
   module _ (list : List ℕ) (n : ℕ) (at : Option (ℕ × ℕ)) (h : Shows_on p sheet W was list n at) where
-    pub shows_done : at ≡ None → Shown (angular_task p) W n was list
-    shows_done e = subst (λ o. Shows_on p sheet W was list n o) e h
-
     pub shows_next : (m w : ℕ) → at ≡ Some (m, w) → n < length list → (o : Option (ℕ × ℕ))
         → MatchOption o (next (graph_of p) (cell_at sheet) m w ≡ 0) (λ q. Onward (graph_of p) (cell_at sheet) m w (next (graph_of p) (cell_at sheet) m w) q.0 q.1)
         → Shows_on p sheet W was (set list n m) (n + 1) o
@@ -133,11 +130,6 @@ module _ (p : Plan) (s : GraphLaws (graph_of p)) (sheet : List ℕ) (full : Fill
             → Shows_on p sheet W was (set list n m) (n + 1) o
         by None z = walk_done (graph_of p) s sheet W (most_of (graph_of p) W) was list n m w full lW lt i.0 i.1 i.2 refl z
         by (Some q) on = walk_more (graph_of p) s sheet W (most_of (graph_of p) W) was list n m w full lW lt i.0 i.1 i.2 q.0 q.1 on
-
-  -- A list that is full has the whole walk.
-  pub shows_full : (list : List ℕ) (n : ℕ) (at : Option (ℕ × ℕ)) → Shows_on p sheet W was list n at → 1000 ≤ n → Shown (angular_task p) W n was list
-  shows_full list n None h long = h
-  shows_full list n (Some x) h long = absurd (omega (arith, h.0, h.1.some))
 
 -- ---- the row of a task
 -- A Vec whose cells were all written holds what was written.

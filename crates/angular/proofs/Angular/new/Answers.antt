@@ -1,4 +1,4 @@
-use Rattle.std.proofs.Common.{is_ok, sym, refl, ap, subst, arith}
+use Rattle.std.proofs.Common.{sym, refl, subst, arith}
 use Rattle.modes.specs.declared.graph.ModeGraph.{ModeGraph}
 use Rattle.modes.specs.Plans.{graph_of}
 use Rattle.modes.specs.Graphs.{plan}
@@ -8,16 +8,6 @@ use Rattle.modes.proofs.Plans.{graph_laws, whole_some}
 use Rattle.angular.proofs.Shows.{row_refilled}
 use Rattle.angular.specs.Walks.{most_is}
 use Rattle.angular.proofs.Angular.new.Goals as goal
-
-pub invariant_of-result : goal.invariant_of-result
-invariant_of-result c =
-    let row = subst (λ (g : ModeGraph). RowTo (graph_of (plan g)) c.write_row.new.row 1001) c.new.ensures.graph c.write_row.ensures in
-    record {
-      some = whole_some (plan c.args.graph) c.requires.whole;
-      whole = ap is_ok c.requires.whole;
-      wide = c.requires.wide;
-      right = row_refilled (graph_of (plan c.args.graph)) c.args.row c.write_row.new.row (omega (arith, c.write_row.auto.row, c.deref_mut.ensures.len)) row;
-    }
 
 pub returns : goal.returns
 returns c =

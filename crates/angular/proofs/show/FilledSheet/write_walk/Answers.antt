@@ -1,15 +1,12 @@
-use Rattle.std.proofs.Common.{◌≡◌, length, sym, subst, arith}
-use Rattle.std.proofs.lemmas.List.{set-get_or}
-use Rattle.line.specs.Shows.{Shown}
+use Rattle.std.proofs.Common.{sym, subst, arith}
 use Rattle.line.specs.Lawful.{GraphLaws}
 use Rattle.modes.specs.Plans.{graph_of}
 use Rattle.modes.specs.Graphs.{plan}
 use Rattle.modes.proofs.Plans.{graph_laws}
 use Rattle.angular.specs.Sheets.{Filled}
-use Rattle.angular.specs.Tasks.{angular_task}
 use Rattle.angular.specs.declared.show.FilledSheet.{FilledSheet}
 use Rattle.angular.proofs.Sheets.{filled_from}
-use Rattle.angular.proofs.Shows.{Shows_on, shows_nothing, shows_start, shows_done, shows_next, shows_full}
+use Rattle.angular.proofs.Shows.{Shows_on, shows_nothing, shows_start, shows_next}
 use Rattle.angular.proofs.show.FilledSheet.write_walk.Goals.{then-window-gt0, else-window-gt0}
 use Rattle.angular.proofs.show.FilledSheet.write_walk.Goals as goal
 
@@ -29,22 +26,7 @@ loop-n-init c =
       | else-window-gt0 w ↦ subst (Shows_on p s.sheet.cells.now c.args.window list list 0) (sym w.at-is) (shows_nothing p (laws s) s.sheet.cells.now (full s) c.args.window c.requires.window list (omega (arith, w.if-window-gt0.false)))
     ]
 
-pub returns-in_default : goal.returns-in_default
-returns-in_default c =
-    let s = c.args.self.now in
-    let p = plan s.sheet.graph.now in
-    subst (λ l. Shown (angular_task p) c.args.window c.loop-n.n c.args.list.now l) (sym (set-get_or c.loop-n.list c.loop-n.n 0))
-    (shows_done p (laws s) s.sheet.cells.now (full s) c.args.window c.requires.window c.args.list.now c.loop-n.list c.loop-n.n c.loop-n.at c.loop-n.invariant c.in_default.is)
-
 pub loop-n-preserved : goal.loop-n-preserved
 loop-n-preserved c =
     let s = c.args.self.now in
     shows_next (plan s.sheet.graph.now) (laws s) s.sheet.cells.now (full s) c.args.window c.requires.window c.args.list.now c.loop-n.list c.loop-n.n c.loop-n.at c.loop-n.invariant c.in-Some.m c.in-Some.w c.in-Some.is (omega arith) c.onward-at.result c.onward-at.ensures
-
-pub returns : goal.returns
-returns c =
-    let s = c.args.self.now in
-    let p = plan s.sheet.graph.now in
-    let n : c.loop-n.n ≡ length c.loop-n.list = omega arith in
-    subst (λ k. Shown (angular_task p) c.args.window k c.args.list.now c.loop-n.list) n
-    (shows_full p (laws s) s.sheet.cells.now (full s) c.args.window c.requires.window c.args.list.now c.loop-n.list c.loop-n.n c.loop-n.at c.loop-n.invariant (omega arith))
