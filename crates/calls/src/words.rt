@@ -34,7 +34,8 @@ pub fn cut_at(bytes: &[u8], end: u8) -> (&[u8], Option<&[u8]>)
     }
 }
 
-/// The number that a word spells, if it is one of 32 bits.
+/// The number that a word spells, if it is one of 32 bits. Unlike a number of a table's text, it may
+/// have more than six digits, and zeros in front.
 fn number_of(word: &[u8]) -> Option<u32>
     ensures { result ≡ number_32 word.now }
 {

@@ -254,16 +254,16 @@ impl Player {
 
     /// What is written of an answer, and a look at what the call left.
     pub(crate) fn tell(&mut self, call: Option<Call>, answer: Answer) -> Result<Vec<u8>, Refusal> {
-        let mut changed = false;
-        match answer.refusal() {
+        let changed = match answer.refusal() {
             Some(Refusal::NoMemory) => return Err(Refusal::NoMemory),
-            Some(_) => changed = !self.seen.stands(self.heap, &self.bench, &self.lent)?,
+            Some(_) => !self.seen.stands(self.heap, &self.bench, &self.lent)?,
             None => {
                 if answer.is_played() && may_change(call) {
                     self.look()?;
                 }
+                false
             }
-        }
+        };
         Ok(self.written(answer, changed)?)
     }
 
