@@ -17,5 +17,6 @@ pub struct Bench {
     id: u32,
     editor: Editor,
     verdict: Option<Verdict>,
+    // One list of cells, as the judge asks to be lent.
     bounds: [u32; CELLS],
 }

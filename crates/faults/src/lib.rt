@@ -38,6 +38,8 @@ impl fmt::Display for Layer {
     }
 }
 
+// Two types, and not one with a layer beside it: which call refused tells `?` the layer.
+
 /// A refusal of mode, link or close.
 #[derive(Clone, Copy)]
 pub struct TaskFault(pub Refusal);

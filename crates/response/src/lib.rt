@@ -29,6 +29,8 @@ mod search;
 /// The cells that the judge shows bounds in: one for each place and mode.
 pub const CELLS: usize = 256;
 
+// A verdict and not an Option: that nothing is over is what the test is for, and has a name of its own.
+
 /// What the test says of tasks, each named by a `Task`: its place, or a number of its own.
 #[derive(Clone, Copy, PartialEq, Eq, Debug)]
 pub enum Verdict<Task> {

@@ -30,6 +30,8 @@ pub struct Sporadic {
     ghost often: { period ≤ 100000 },
 }
 
+// The three numbers come unchecked, each with refusals of its own; `Sporadic` is the struct that has them checked.
+
 /// Whether the numbers are those of a sporadic task.
 pub fn check_sporadic(cost: u32, period: u32, deadline: u32) -> Result<(), Refusal>
     ensures { result ≡ sporadic_answer cost period deadline }

@@ -7,6 +7,8 @@ use super::Bench;
 use line::change::Change;
 use line::refusal::Refusal;
 
+// Each call names the law of its own: that the table asks for no more is what a caller reads there.
+
 impl Bench {
     /// Takes a task out of the table; lower tasks move up.
     pub fn take(&mut self, number: u32) -> Result<(), Refusal>

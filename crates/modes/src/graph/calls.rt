@@ -66,6 +66,7 @@ impl ModeGraph {
     pub fn cost(&self, m: usize) -> u32
         ensures { result ≡ (graph_of (plan self.now)).cost m }
     {
+        // 0 and not an Option, as a line answers past the modes of a task.
         self.mode(m).map_or(0, |mode| mode.cost)
     }
 

@@ -45,6 +45,7 @@ impl Table {
     pub fn number_at(&self, place: usize) -> u32
         ensures { result ≡ number_at (items self.now) place }
     {
+        // 0 and not an Option: numbers begin at 1, and past its places a line answers 0 to what it is asked.
         self.task_at(place).map_or(0, |t| t.number)
     }
 

@@ -6,9 +6,6 @@ use Rattle.save.proofs.Rights.{table_together}
 use Rattle.save.proofs.Spelling.{text_more_long, last_more}
 use Rattle.save.proofs.measure.measure.Goals as goal
 
-pub overflow_add-len : goal.overflow_add-len
-overflow_add-len c = omega (arith, (table_together c.args.table.now).few)
-
 pub loop-place-preserved : goal.loop-place-preserved
 loop-place-preserved c =
     let is = items c.args.table.now in
@@ -19,11 +16,3 @@ loop-place-preserved c =
       omega (arith, c.loop-place.invariant.2, c.task_len-len.ensures.short),
     )
 
-pub returns : goal.returns
-returns c =
-    let is = items c.args.table.now in
-    let all : take c.loop-place.place is ≡ is = take_all c.loop-place.place is (omega (arith, c.len-place-end.ensures)) in
-    record {
-      len = c.loop-place.invariant.0 ∙ ap (λ xs. length (spelled (forms_of xs))) all;
-      last = c.loop-place.invariant.1 ∙ ap last_place all;
-    }

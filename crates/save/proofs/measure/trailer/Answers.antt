@@ -5,9 +5,6 @@ use Rattle.save.proofs.Spelling.{last_within}
 use Rattle.save.proofs.Short.{lines_short}
 use Rattle.save.proofs.measure.trailer.Goals as goal
 
-pub overflow_cast-result : goal.overflow_cast-result
-overflow_cast-result c = omega (arith, c.len.ensures, (table_together c.args.table.now).few)
-
 pub overflow_cast-result-2 : goal.overflow_cast-result-2
 overflow_cast-result-2 c =
     let t = c.args.table.now in

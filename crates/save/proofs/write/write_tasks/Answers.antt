@@ -27,9 +27,3 @@ loop-place-preserved c =
     (sym (text_more is k lt))
     (wrote_more c.loop-place.invariant c.in_ok-end.ensures)
 
-pub returns : goal.returns
-returns c =
-    let is = items c.args.table.now in
-    subst (λ (xs : List Item). Wrote c.args.out.now 0 (spelled (forms_of xs)) c.loop-place.out c.loop-place.end)
-    (take_all c.loop-place.place is (omega (arith, c.len-place-end.ensures)))
-    c.loop-place.invariant

@@ -2,11 +2,6 @@ use Rattle.std.proofs.Common.{arith}
 use Rattle.writer.proofs.Writing.{wrote_more, wrote_length}
 use Rattle.writer.proofs.writes.write_field.Goals as goal
 
-pub write_number-requires : goal.write_number-requires
-write_number-requires c =
-    let w = c.write_byte-place.ensures in
-    omega (arith, wrote_length w, w.ends)
-
 pub returns : goal.returns
 returns c =
     let w = c.write_byte-place.ensures in

@@ -6,9 +6,6 @@ use Rattle.writer.proofs.Writing.{wrote_more, wrote_none, fields_more, fields_ro
 use Rattle.writer.proofs.writes.write_words.Goals as goal
 use Rattle.writer.proofs.writes.write_words.Goals.{After-loop-n}
 
-pub write_bytes-place-requires : goal.write_bytes-place-requires
-write_bytes-place-requires c = omega (arith, line_long c.args.key.now c.args.numbers.now)
-
 pub loop-n-init : goal.loop-n-init
 loop-n-init c = wrote_none _ _ (omega (arith, line_long c.args.key.now c.args.numbers.now))
 
@@ -29,11 +26,6 @@ all_fields c =
     subst (λ l. Wrote c.write_bytes-place.new.out c.write_bytes-place.result (fields l) c.loop-n.out c.loop-n.place)
     (take_all c.loop-n.n-index c.args.numbers.now c.loop-n-test.false)
     c.loop-n.invariant
-
-pub write_byte-requires : goal.write_byte-requires
-write_byte-requires c =
-    let a = line_long c.args.key.now c.args.numbers.now in
-    omega (arith, (all_fields (goal.at.write_byte-requires c).After-loop-n).ends)
 
 pub returns : goal.returns
 returns c =
