@@ -85,6 +85,7 @@ fn column(graph: &ModeGraph, cells: &mut [u32], w: usize)
     ensures here { ColumnTo (graph_of (plan graph.now)) cells.new w (length (plan graph.now).modes) }
     ensures kept { Kept (length (plan graph.now).modes) cells.old cells.new }
 {
+    // The cells of a window lie a row apart, so there is no slice of them to go along.
     for m in 0..graph.len() {
         let sheet = Sheet { graph, cells };
         let work = sheet.greatest(m, w);

@@ -6,7 +6,8 @@ ghost use Rattle.calls.specs.Lists.{lending_call, call_of, read, load_length, lo
 
 use crate::call::{Call, Length, Memory, NoCall};
 use crate::names::named;
-use crate::words::{LINE_FEED, SPACE, cut_at, numbers_of};
+use crate::words::{cut_at, numbers_of};
+use forms::separator::{LINE_FEED, SPACE};
 
 /// The first call of a list, if its line is one; the text that it brings; and the rest of the list.
 #[derive(Drop)]

@@ -5,12 +5,7 @@ ghost use Rattle.calls.specs.Lists.{numbers_in};
 
 use arrayvec::ArrayVec;
 use forms::number::digits_up_to;
-
-/// What stands between two words.
-pub const SPACE: u8 = b' ';
-
-/// What ends a line.
-pub const LINE_FEED: u8 = b'\n';
+use forms::separator::SPACE;
 
 /// The most numbers of a call.
 const NUMBERS: usize = 5;

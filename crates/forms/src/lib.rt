@@ -14,3 +14,4 @@
 pub mod form;
 pub mod keyword;
 pub mod number;
+pub mod separator;

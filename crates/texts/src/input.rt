@@ -4,6 +4,7 @@ ghost use Rattle.std.specs.Iterator.{YieldsFirstBy, item_count};
 ghost use Rattle.texts.specs.Texts.{number_64, first_text, in_two, texts_left, texts_of};
 
 use forms::number::digits_up_to;
+use forms::separator::LINE_FEED;
 
 /// The number that digits spell.
 fn number_of(digits: &[u8]) -> Option<usize>
@@ -16,7 +17,7 @@ fn number_of(digits: &[u8]) -> Option<usize>
 fn line_end(bytes: &[u8]) -> Option<usize>
     ensures { result ≡ position (λ byte. byte == 10) bytes.now }
 {
-    bytes.iter().position(|byte| *byte == b'\n')
+    bytes.iter().position(|byte| *byte == LINE_FEED)
 }
 
 /// The first text, and what follows it and its line feed.

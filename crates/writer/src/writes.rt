@@ -5,6 +5,7 @@ ghost use Rattle.writer.specs.Output.{overwrite, line_of, Wrote, WriteDone};
 
 use crate::lengths::form_len;
 use forms::form::Form;
+use forms::separator::{LINE_FEED, SPACE};
 
 // The output is lent, and the place goes beside it: a cursor that held the output would have to say in each
 // contract that it is still the caller's.
@@ -56,7 +57,7 @@ fn write_field(out: &mut [u8], at: usize, n: u32) -> usize
     requires { at + length (field n) ≤ length out.old }
     ensures { Wrote out.old at (field n) out.new result }
 {
-    let place = write_byte(out, at, b' ');
+    let place = write_byte(out, at, SPACE);
     write_number(out, place, n)
 }
 
@@ -70,7 +71,7 @@ fn write_words(out: &mut [u8], at: usize, key: &[u8], numbers: &[u32]) -> usize
     for n in numbers {
         place = write_field(out, place, *n);
     }
-    write_byte(out, place, b'\n')
+    write_byte(out, place, LINE_FEED)
 }
 
 /// Writes the line of `form` where there is room for it, and answers the place after it.

@@ -8,12 +8,7 @@ ghost use Rattle.forms.specs.Lines.{out, byte_of, line_end_of, number_at, field_
 use super::{Reader, Token};
 use forms::form::NoForm;
 use forms::number::number_of;
-
-/// What stands between two words of a line.
-const SPACE: u8 = b' ';
-
-/// What ends a line.
-const LINE_FEED: u8 = b'\n';
+use forms::separator::{LINE_FEED, SPACE};
 
 /// Where the first separator stands, if there is one.
 fn first_separator(text: &[u8]) -> Option<usize>
