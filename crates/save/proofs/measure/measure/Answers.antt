@@ -15,4 +15,3 @@ loop-place-preserved c =
       c.loop-place.invariant.0 ∙ sym (last_more is k lt),
       omega (arith, c.loop-place.invariant.2, c.task_len-len.ensures.short),
     )
-

@@ -26,4 +26,3 @@ loop-place-preserved c =
     subst (λ (l : List ℕ). Wrote c.args.out.now 0 l c.write_task.new.out c.in_ok-end.end)
     (sym (text_more is k lt))
     (wrote_more c.loop-place.invariant c.in_ok-end.ensures)
-
