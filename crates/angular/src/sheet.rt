@@ -9,6 +9,8 @@ ghost use Rattle.angular.specs.Sheets.{cell_at, ColumnTo, Filled, FilledTo, Kept
 use line::limits::WINDOWS;
 use modes::graph::ModeGraph;
 
+// A window is a plain number with its bound in each contract: it is taken off from and counted with at every step.
+
 /// A work sheet, with the graph whose modes its cells are of.
 #[derive(Clone, Copy)]
 pub(crate) struct Sheet<'a> {
@@ -42,7 +44,7 @@ impl<'a> Sheet<'a> {
         requires { w ≤ 1000 }
         ensures { result ≡ offer (gap_at (plan self.now.graph.now) m b) w (cell_at self.now.cells.now b) }
     {
-        // Not by `map_or`: of what its closure returns a proof learns nothing.
+        // Tried with `map_or`: that its closure answers the cell of what is left was not proved.
         let Some(left) = self.left(m, w, b) else {
             return 0;
         };
@@ -85,7 +87,7 @@ fn column(graph: &ModeGraph, cells: &mut [u32], w: usize)
     ensures here { ColumnTo (graph_of (plan graph.now)) cells.new w (length (plan graph.now).modes) }
     ensures kept { Kept (length (plan graph.now).modes) cells.old cells.new }
 {
-    // The cells of a window lie a row apart, so there is no slice of them to go along.
+    // By number, and not along the cells a row apart: each is worked out from the whole sheet before it is written.
     for m in 0..graph.len() {
         let sheet = Sheet { graph, cells };
         let work = sheet.greatest(m, w);

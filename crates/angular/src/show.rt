@@ -56,6 +56,7 @@ impl<'a> FilledSheet<'a> {
     }
 
     /// The first mode that offers the most after `m` with `w` left.
+    // Found as in `start`; one function of a key would have to say for each key where it may be asked.
     fn pick(&self, m: usize, w: usize) -> usize
         requires { w ≤ 1000 }
         ensures mode { result < length (plan self.now.sheet.graph.now).modes }
@@ -87,7 +88,7 @@ impl<'a> FilledSheet<'a> {
         requires cells { 1000 ≤ length list.old }
         ensures { Shown (angular_task (plan self.now.sheet.graph.now)) window result list.old list.new }
     {
-        // Not by `then`: of what its closure returns a proof learns nothing.
+        // Tried with `then`: that its closure answers the first mode was not proved.
         let mut at = if window > 0 {
             Some((self.start(window), window))
         } else {

@@ -29,6 +29,8 @@ impl Keyword {
     }
 }
 
+// By a pattern for each word, and not by a search among the words: the first word tells the form at one look.
+
 /// The keyword that a word spells, if it spells one.
 impl<'a> TryFrom<&'a [u8]> for Keyword {
     type Error = NoForm;

@@ -54,6 +54,8 @@ impl<Top: Line, Low: Line> Joined<Top, Low> {
     }
 }
 
+// A match in each question: each asks a part for something else, and a part could be handed out only as a `dyn`.
+
 impl<Top: Line, Low: Line> Line for Joined<Top, Low> {
     ghost meaning = { (joined_ghosts Top.Line Low.Line).meaning };
 

@@ -9,8 +9,8 @@ use editor::editor::Editor;
 
 pub mod steps;
 
-// The work sheet is lent to each call, and its length asked for there: a loader that held it would have to say in
-// each contract that it is still the caller's.
+// The work sheet is lent to each call, any that is long enough, and its length asked for there: a loader that held it
+// would have to say in each contract that it is still the caller's.
 
 /// The tasks read so far, and the byte place where the last task's first line begins.
 #[derive(Drop)]

@@ -181,6 +181,7 @@ impl Loader {
     }
 
     /// Reads the next line and does what it says; answers whether it was the trailer.
+    // Yes or no, and no Option: there is nothing beside it.
     pub fn next(&mut self, reader: &mut Reader<'_>, sheet: &mut [u32]) -> Result<bool, LineFault>
         requires { 16016 ≤ length sheet.old }
         ensures step { NextDone (at reader.old) (progress self.old) result (at reader.new) (progress self.new) }

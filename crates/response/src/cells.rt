@@ -18,5 +18,6 @@ pub fn show(cells: &mut [u32], place: usize, mode: usize, window: u32)
     requires { place * 16 + mode < length cells.old }
     ensures { cells.new ≡ slice_set cells.old (place * 16 + mode) window }
 {
+    // The cells are lent as one list.
     cells[place * MODES + mode] = window;
 }

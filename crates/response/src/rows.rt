@@ -44,6 +44,7 @@ impl<'a, L: Line> Row<'a, L> {
         ensures line { result.line.now ≡ self.entry.line.now }
         ensures place { result.place ≡ place }
     {
+        // The row of the last place is not left, so what that place can ask for is never added up.
         if self.place < place {
             self.next()
         } else {

@@ -68,7 +68,7 @@ impl<'a, L: Line> Moment<'a, L> {
     pub fn ready(&self, place: usize, mode: usize, last: Option<Job>) -> bool
         ensures { result ≡ ready (L.meaning self.now.line.now) place mode self.now.clock last }
     {
-        // Not by `is_none_or`: of what its closure returns a proof learns nothing.
+        // Tried with `is_none_or`, in three forms: that its closure answers the question was not proved.
         let Some(job) = last else {
             return true;
         };

@@ -10,6 +10,9 @@ use line::Line;
 use line::limits::MODES;
 use table::table::Table;
 
+// Slots, and not an iterator of lines: one loop goes over all lines of a task in the order of the text, and a link's
+// slot has the number that its gap has in a plan.
+
 /// A task has a slot for its first line, one for each of 16 modes, and one for each pair of modes.
 pub(crate) const SLOTS: usize = 273;
 

@@ -6,12 +6,11 @@ ghost use Rattle.save.specs.Texts.{text_of};
 ghost use Rattle.save.specs.Saves.{room_answer, SaveDone, ReadsBack, ReadsOnly, LoadsBack};
 
 use crate::measure::{measure, trailer};
-use crate::write::write_tasks;
+use crate::write::{write_line, write_tasks};
 use bench::bench::Bench;
 use line::refusal::Refusal;
 use table::table::Table;
 use writer::lengths::form_len;
-use writer::writes::write_form;
 
 /// Refuses an output of `room` bytes where `len` bytes are to be written.
 fn check_room(len: usize, room: usize) -> Result<(), Refusal>
@@ -30,8 +29,8 @@ fn save_table(table: &Table, out: &mut [u8]) -> Result<usize, Refusal>
     let extent = measure(table);
     let end = trailer(table, extent.last);
     check_room(extent.len + form_len(end), out.len())?;
-    let at = write_tasks(table, out).ok_or(Refusal::TooShort)?;
-    write_form(out, at, end).ok_or(Refusal::TooShort)
+    let at = write_tasks(table, out);
+    Ok(write_line(out, at, end))
 }
 
 /// Writes the text of the bench's table into `out`, and answers its length; later bytes stay. An

@@ -43,6 +43,8 @@ impl Make {
     }
 }
 
+// A match in each question: each asks a make for something else, and a make could be handed out only as a `dyn`.
+
 impl Line for Make {
     ghost meaning = { λ m. sole (task_of (make_of m)) };
 

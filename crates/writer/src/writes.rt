@@ -8,7 +8,8 @@ use forms::form::Form;
 use forms::separator::{LINE_FEED, SPACE};
 
 // The output is lent, and the place goes beside it: a cursor that held the output would have to say in each
-// contract that it is still the caller's.
+// contract that it is still the caller's. A line is written byte by byte into it, and not by `Display`, since its end
+// content is promised where there is no heap to make a text first.
 
 /// The last digit of `n`.
 fn last_digit(n: u32) -> u8

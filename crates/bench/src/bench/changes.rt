@@ -7,7 +7,7 @@ use super::Bench;
 use line::change::Change;
 use line::refusal::Refusal;
 
-// Each call names the law of its own: that the table asks for no more is what a caller reads there.
+// The calls stand as they are named, and each names the law, for its caller to read there.
 
 impl Bench {
     /// Takes a task out of the table; lower tasks move up.

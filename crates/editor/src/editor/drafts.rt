@@ -90,13 +90,15 @@ impl Editor {
         ensures { CloseDone (desk self.old) sheet.old result (desk self.new) sheet.new }
     {
         self.may_close(sheet.len())?;
-        if let Some(sketch) = self.draft.take() {
-            let Sketch {
+        if let Some(
+            Sketch {
                 number,
                 place,
                 graph,
                 row,
-            } = sketch;
+            },
+        ) = self.draft.take()
+        {
             let task = Angular::new(graph, row, sheet);
             let _ = self.table.insert(
                 place,

@@ -34,8 +34,8 @@ impl Table {
         Ok(())
     }
 
-    /// Changes the task at a place, which may undergo it. The task is taken out and put back, since
-    /// a change makes another task of it.
+    /// Changes the task at a place, which may undergo it. The task is taken out and put back: a
+    /// changed task is made anew from the old one, so that sheet and row are filled in one place.
     fn change_at(&mut self, place: usize, change: Ranged, sheet: &mut [u32])
         requires room { 16016 ≤ length sheet.old }
         requires may { change_answer (task_at (line_of (items self.old)) place).graph change.change ≡ Ok tt }

@@ -1,8 +1,5 @@
-use Rattle.std.proofs.Common.{◌≡◌, ◌<◌, length, take, sym, ap, ◌∙◌, arith}
-use Rattle.std.proofs.lemmas.List.{take_all}
+use Rattle.std.proofs.Common.{◌<◌, length, sym, ◌∙◌, arith}
 use Rattle.table.specs.Tables.{items}
-use Rattle.save.specs.Texts.{forms_of, spelled, last_place}
-use Rattle.save.proofs.Rights.{table_together}
 use Rattle.save.proofs.Spelling.{text_more_long, last_more}
 use Rattle.save.proofs.measure.measure.Goals as goal
 

@@ -1,10 +1,8 @@
-use Rattle.std.proofs.Common.{ℕ, ◌+◌, length, Option, refl, ap, subst, arith, MatchOption}
+use Rattle.std.proofs.Common.{◌+◌, length, Some, Ok, refl, ap, arith}
 use Rattle.std.proofs.lemmas.Result.{err_from_is_err_and}
 use Rattle.table.specs.Tables.{items}
 use Rattle.forms.specs.declared.form.Form.{Form}
 use Rattle.forms.specs.Format.{spell}
-use Rattle.writer.specs.Output.{Wrote}
-use Rattle.save.specs.Texts.{forms_of, spelled}
 use Rattle.save.proofs.Rights.{table_together, table_rights}
 use Rattle.save.proofs.Short.{lines_short}
 use Rattle.save.proofs.Spelling.{text_long, saved, room_there, room_lacks}
@@ -25,9 +23,10 @@ returns-in_err-check_room c =
 pub returns : goal.returns
 returns c =
     let is = items c.args.table.now in
-    saved is c.args.out.now c.write_tasks.new.out c.write_form.new.out c.in_ok-at.at c.write_form.result c.ok_or-2.result c.trailer-end.result
+    let end = c.write_line.result in
+    saved is c.args.out.now c.write_tasks-at.new.out c.write_line.new.out c.write_tasks-at.result (Some end) (Ok end) c.trailer-end.result
     c.trailer-end.ensures
     (omega (arith, c.measure-extent.ensures.len, c.form_len.ensures.is, room_there (c.measure-extent.result.len + c.form_len.result) (length c.args.out.now) c.in_ok-check_room.ensures))
-    (subst (λ (o : Option ℕ). MatchOption o ⊥ (λ end. Wrote c.args.out.now 0 (spelled (forms_of is)) c.write_tasks.new.out end)) c.in_ok-at.ensures.ok_part c.write_tasks.ensures)
-    c.write_form.ensures
-    c.ok_or-2.ensures.value
+    c.write_tasks-at.ensures
+    c.write_line.ensures
+    refl

@@ -16,12 +16,12 @@ loop-slot-init c =
     (sym (slots_none (slot_of (items c.args.table.now) c.args.place)))
     (wrote_none c.args.out.now c.args.at (omega (arith, c.requires.room)))
 
-pub returns-in_err-end : goal.returns-in_err-end
-returns-in_err-end c =
+pub write_line-end-requires : goal.write_line-end-requires
+write_line-end-requires c =
     let is = items c.args.table.now in
     let all = slots_all is c.args.place c.requires.there (table_rights c.args.table.now) in
     let room = slot_room (slot_of is c.args.place) c.loop-slot.slot c.in-Some.form _ c.in-Some.ensures (omega arith) all in
-    absurd (omega (arith, room, c.in_err-end.ensures.0, c.loop-slot.invariant.ends, c.loop-slot.auto.out, c.requires.room))
+    omega (arith, room, c.loop-slot.invariant.ends, c.loop-slot.auto.out, c.requires.room)
 
 pub loop-slot-preserved : goal.loop-slot-preserved
 loop-slot-preserved c =
@@ -29,9 +29,9 @@ loop-slot-preserved c =
     let n = c.loop-slot.slot in
     let Goal : List ℕ → ℕ → Type 0 = λ now end. Wrote c.args.out.now c.args.at (spelled (slots_to f (n + 1))) now end in
     elim c.match-line_at.branch [
-      | goal.in-Some+in_ok-end w ↦
+      | goal.in-Some w ↦
           subst₂ Goal (sym w.out-is) (sym w.end-is)
-          (slot_wrote f n w.in-Some.form c.args.out.now c.loop-slot.out w.write_form.new.out c.args.at c.loop-slot.end w.in_ok-end.end w.in-Some.ensures c.loop-slot.invariant w.in_ok-end.ensures)
+          (slot_wrote f n w.in-Some.form c.args.out.now c.loop-slot.out w.write_line-end.new.out c.args.at c.loop-slot.end w.write_line-end.result w.in-Some.ensures c.loop-slot.invariant w.write_line-end.ensures)
       | goal.in_default w ↦
           subst₂ Goal (sym w.out-is) (sym w.end-is)
           (slot_passed f n c.args.out.now c.loop-slot.out c.args.at c.loop-slot.end w.in_default.ensures c.loop-slot.invariant)
