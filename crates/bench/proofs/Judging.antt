@@ -1,9 +1,8 @@
 -- What the judge of the table's line says to a bench that has just its 256 cells. Assumes nothing.
-use Rattle.std.proofs.Common.{◌≡◌, ℕ, false, ltb, List, ◌++◌, length, Ok, Err, ap, ◌∙◌, append-nil, arith}
+use Rattle.std.proofs.Common.{◌≡◌, ℕ, false, ltb, List, ◌++◌, length, Ok, ap, ◌∙◌, append-nil, arith}
 use Rattle.std.proofs.lemmas.List.{drop_all}
 use Rattle.std.proofs.lemmas.Bool.{cond-false, le-ltb}
 use Rattle.line.specs.Meaning.{Meaning}
-use Rattle.line.specs.declared.refusal.Refusal.{Refusal}
 use Rattle.response.specs.Verdicts.{verdict_of, bound_cells, judge_answer, judged_cells}
 use Rattle.response.specs.declared.Verdict.{Verdict}
 
@@ -16,9 +15,6 @@ module _ (m : Meaning) (cells : List ℕ) (long : length cells ≡ 256) where
 
   pub found : (v : Verdict ℕ) → Ok v ≡ judge_answer m (length cells) → v ≡ verdict_of m
   found v e = cc (e, answered)
-
-  pub never_short : (e : Refusal) → Err e ≡ judge_answer m (length cells) → ⊥
-  never_short e h = let z : ◌≡◌ {A = ℕ} 0 1 = cc (h, answered) in omega arith
 
   pub shown : judged_cells m cells ≡ bound_cells m
   shown = cond-false _ _ _ enough ∙ ap (λ xs. bound_cells m ++ xs) (drop_all 256 cells (omega (arith, long))) ∙ append-nil (bound_cells m)

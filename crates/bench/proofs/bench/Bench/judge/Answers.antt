@@ -4,13 +4,8 @@ use Rattle.table.specs.Tables.{items}
 use Rattle.table.specs.declared.table.Table.{Table}
 use Rattle.response.specs.Verdicts.{verdict_of, bound_cells}
 use Rattle.bench.specs.State.{on_numbers}
-use Rattle.bench.proofs.Judging.{found, never_short, shown}
+use Rattle.bench.proofs.Judging.{found, shown}
 use Rattle.bench.proofs.bench.Bench.judge.Goals as goal
-
-pub unreachable-requires : goal.unreachable-requires
-unreachable-requires c =
-    let n : length c.args.self.now.bounds ≡ 256 = omega arith in
-    never_short (line_of (items c.table-table.result.now)) c.args.self.now.bounds n c.in-Err.field-0 c.in-Err.ensures.answer
 
 pub returns : goal.returns
 returns c =
