@@ -1,3 +1,4 @@
 pub mod Facts
 pub mod Changing
 pub mod Ranges
+pub mod Rows

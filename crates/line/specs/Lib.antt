@@ -8,3 +8,4 @@ pub mod Lighter
 pub mod Shows
 pub mod Joins
 pub mod Joining
+pub mod Rows

@@ -10,9 +10,10 @@ use Rattle.line.specs.declared.refusal.Refusal.TheVariants.{NoLinkOut}
 use Rattle.line.specs.Meaning.{Graph}
 use Rattle.line.specs.Lawful.{GraphLaws}
 use Rattle.line.specs.Answers.{Answer}
-use Rattle.modes.specs.Plans.{Plan, blank, graph_of, cells, AllRows, gap_at, add_answer, leads_out, all_lead_out, whole_answer, Whole, right_mode, right_gap, RightModes, RightGaps}
+use Rattle.line.specs.Rows.{cells, AllRows}
+use Rattle.modes.specs.Plans.{Plan, blank, graph_of, gap_at, add_answer, leads_out, all_lead_out, whole_answer, Whole, right_mode, right_gap, RightModes, RightGaps}
 use Rattle.modes.specs.Graphs.{plan}
-use Rattle.modes.proofs.Rows.{length-cells, cell_at, set_cell, set_row}
+use Rattle.line.proofs.Rows.{length-cells, cell_at, set_cell, set_row}
 use Rattle.modes.specs.declared.graph.Mode.{Mode}
 use Rattle.modes.specs.declared.graph.ModeGraph.{ModeGraph}
 
@@ -142,7 +143,7 @@ module _ (g : ModeGraph) where
   row_at : (k : ℕ) → k < 16 → list_any is_some (get_or (vec_items g.gaps) k []) ≡ leads_out G k G.modes
   row_at k h =
       let within : k < length (vec_items g.gaps) = omega (arith, tall g, g.gaps.ok.0) in
-      row_all G k (get_or (vec_items g.gaps) k []) (g.rows k within) (λ b lb. sym (cell_at (vec_items g.gaps) g.rows k b within lb)) few
+      row_all G k (get_or (vec_items g.gaps) k []) (g.rows k within) (λ b lb. sym (cell_at (vec_items g.gaps) g.rows k b None within lb)) few
       (λ b past lb. no_gap (plan g).modes k b (G.gap k b) (g.links k b lb) past)
 
   pub rows_lead : (k : ℕ) → k ≤ G.modes → list_all (list_any is_some) (take k (vec_items g.gaps)) ≡ all_lead_out G k
@@ -195,7 +196,7 @@ gap_between p a b la lb = sym (cond-true _ _ _ (lt-ltb _ _ la) ∙ cond-true _ _
 pub gap_read : (g : ModeGraph) (a b : ℕ) (row : List (Option ℕ)) → a < 16 → b < 16 → row ≡ get_or (vec_items g.gaps) a row → get_or row b None ≡ (graph_of (plan g)).gap a b
 gap_read g a b row la lb e =
     let within : a < length (vec_items g.gaps) = omega (arith, tall g, g.gaps.ok.0) in
-    ap (λ (r : List (Option ℕ)). get_or r b None) (get_or_read (vec_items g.gaps) a row within e []) ∙ sym (cell_at (vec_items g.gaps) g.rows a b within lb)
+    ap (λ (r : List (Option ℕ)). get_or r b None) (get_or_read (vec_items g.gaps) a row within e []) ∙ sym (cell_at (vec_items g.gaps) g.rows a b None within lb)
 
 -- A gap that is written stands at its cell, and each row is as long as it was.
 pub gap_written : (g : ModeGraph) (a b : ℕ) (row : List (Option ℕ)) (gap : Option ℕ) → a < 16 → b < 16 → row ≡ get_or (vec_items g.gaps) a row

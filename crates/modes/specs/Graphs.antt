@@ -1,7 +1,8 @@
 -- What a graph of modes means. Assumes nothing.
 use Rattle.std.specs.Prelude.{vec_items}
+use Rattle.line.specs.Rows.{cells}
 use Rattle.modes.specs.declared.graph.ModeGraph.{ModeGraph}
-use Rattle.modes.specs.Plans.{Plan, cells}
+use Rattle.modes.specs.Plans.{Plan}
 
 -- The plain value that a graph of modes holds.
 abbrev pub plan : ModeGraph → Plan

@@ -120,12 +120,3 @@ RightModes modes = (m : ℕ) → m < length modes → right_mode (slice_index_or
 
 abbrev pub RightGaps : List Mode → List (Option ℕ) → Type 0
 RightGaps modes gaps = (a b : ℕ) → b < 16 → right_gap modes a b (slice_index_or gaps (a * 16 + b) None) ≡ true
-
--- The gaps of the rows, one row after the other.
-abbrev pub cells : List (List (Option ℕ)) → List (Option ℕ)
-cells [] = []
-cells (r ∷ rs) = r ++ cells rs
-
--- Each row has a gap, or none, for each of 16 modes.
-abbrev pub AllRows : List (List (Option ℕ)) → Type 0
-AllRows rows = (k : ℕ) → k < length rows → length (get_or rows k []) ≡ 16

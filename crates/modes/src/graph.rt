@@ -1,6 +1,7 @@
 //! The graph of modes of an angular task, as it is filled.
 ghost use Rattle.std.specs.Prelude.{◌≡◌, ◌≤◌, length, vec_len, vec_capacity};
-ghost use Rattle.modes.specs.Plans.{mode_numbers, link_numbers, cells, AllRows, RightModes, RightGaps};
+ghost use Rattle.line.specs.Rows.{cells, AllRows};
+ghost use Rattle.modes.specs.Plans.{mode_numbers, link_numbers, RightModes, RightGaps};
 
 use line::limits::{GAP, MODES, WINDOW};
 use line::refusal::Refusal;

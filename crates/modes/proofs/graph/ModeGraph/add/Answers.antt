@@ -1,5 +1,6 @@
 use Rattle.std.proofs.Common.{vec_items, ap, ◌∙◌, arith}
-use Rattle.modes.specs.Plans.{cells, right_mode}
+use Rattle.line.specs.Rows.{cells}
+use Rattle.modes.specs.Plans.{right_mode}
 use Rattle.modes.specs.Graphs.{plan}
 use Rattle.modes.proofs.Plans.{add_passed, added_right}
 use Rattle.modes.proofs.graph.ModeGraph.add.Goals as goal

@@ -1,5 +1,6 @@
 use Rattle.std.proofs.Common.{ℕ, List, length, vec_items, Option, sym, ap, ◌∙◌, subst, arith, length-set}
-use Rattle.modes.specs.Plans.{Plan, cells, RightGaps}
+use Rattle.line.specs.Rows.{cells}
+use Rattle.modes.specs.Plans.{Plan, RightGaps}
 use Rattle.modes.proofs.Plans.{set_right, gap_written, tall}
 use Rattle.modes.proofs.graph.ModeGraph.set_gap.Goals as goal
 
