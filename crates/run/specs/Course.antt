@@ -1,5 +1,6 @@
 -- A run as one value. Assumes nothing.
 use Rattle.std.specs.Prelude.{ℕ, ◌+◌, ◌*◌, List, replicate, Some, None, Option, slice_index, slice_index_or}
+use Rattle.line.specs.Rows.{cells}
 use Rattle.run.specs.declared.Job.{Job}
 use Rattle.run.specs.declared.Late.{Late}
 use Rattle.run.specs.declared.Play.{Play}
@@ -17,8 +18,9 @@ pub record Course : Type 0 where
 abbrev pub fresh : Course
 fresh = record { clock = 0; jobs = replicate 16 None; worst = replicate 256 0; late = None }
 
+-- The rows of longest times stand one after the other.
 abbrev pub course : Play → Course
-course p = record { clock = p.clock; jobs = p.jobs; worst = p.worst; late = p.late }
+course p = record { clock = p.clock; jobs = p.jobs; worst = cells p.worst; late = p.late }
 
 -- The last job released at a place.
 abbrev pub job_at : List (Option Job) → ℕ → Option Job

@@ -107,8 +107,7 @@ impl Play {
         ensures { course self.new ≡ raised_at place mode took (course self.old) }
     {
         if mode < MODES {
-            let cell = place * MODES + mode;
-            self.worst[cell] = self.worst[cell].max(took);
+            self.worst[place][mode] = self.worst[place][mode].max(took);
         }
     }
 }
