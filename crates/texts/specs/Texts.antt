@@ -1,7 +1,6 @@
 -- The texts of an input: each comes as a line with its length, its bytes, and a line feed. Assumes nothing.
-use Rattle.std.specs.Prelude.{ℕ, zero, suc, ◌+◌, ◌-◌, ◌*◌, ◌&&◌, ◌^◌, cond, List, [], ◌∷◌, ◌==◌, length, take, drop, Some, None, Option, nat_lt, position, option_map, unwrap_or}
+use Rattle.std.specs.Prelude.{ℕ, zero, suc, ◌+◌, cond, List, [], ◌∷◌, ◌==◌, length, take, drop, Some, None, Option, nat_lt, position, option_map, unwrap_or}
 use Rattle.std.specs.Borrow.{Bor}
-use Rattle.std.specs.Char.{is_ascii_digit}
 use Rattle.std.specs.Option.{option_and_then}
 use Rattle.forms.specs.Numbers.{digits_up_to}
 use Rattle.texts.specs.declared.input.Texts.{Texts}

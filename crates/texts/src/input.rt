@@ -57,9 +57,7 @@ impl<'a> Iterator for Texts<'a> {
     ghost remaining = { item_count texts_left };
 
     fn next(&mut self) -> Option<&'a [u8]> {
-        let Some((text, rest)) = first(self.rest) else {
-            return None;
-        };
+        let (text, rest) = first(self.rest)?;
         self.rest = rest;
         Some(text)
     }
