@@ -20,13 +20,13 @@ use player::Player;
 use std::io::{Read, Write};
 
 /// Plays a call, if it is one, and writes its answer.
-fn step(rt: &HostRuntime, player: &mut Player, first: &Step<'_>) -> anyhow::Result<()> {
-    let answer = match first.call {
-        Some(call) => player.play(call, first.text),
+fn play(rt: &HostRuntime, player: &mut Player, step: &Step<'_>) -> anyhow::Result<()> {
+    let answer = match step.call {
+        Some(call) => player.play(call, step.text),
         None => Answer::Unknown,
     };
     let line = player
-        .tell(first.call, answer)
+        .tell(step.call, answer)
         .map_err(|_| anyhow!("no memory"))?;
     rt.stdout().write_all(&line)?;
     Ok(())
@@ -34,8 +34,8 @@ fn step(rt: &HostRuntime, player: &mut Player, first: &Step<'_>) -> anyhow::Resu
 
 /// Plays a whole list.
 fn run(rt: &HostRuntime, player: &mut Player, list: &[u8]) -> anyhow::Result<()> {
-    for first in Calls::new(list) {
-        step(rt, player, &first)?;
+    for step in Calls::new(list) {
+        play(rt, player, &step)?;
     }
     Ok(())
 }

@@ -53,14 +53,14 @@ impl Player {
         }
     }
 
-    /// Ends the draft in hand, and says whether there was one.
-    fn end(&mut self) -> bool {
+    /// Ends the draft in hand, if there is one.
+    fn abandon(&mut self) -> Answer {
         match self.hand.take() {
             Some(draft) => {
                 self.bench.abandon(draft);
-                true
+                Answer::Done
             }
-            None => false,
+            None => Answer::NoDraft,
         }
     }
 
@@ -137,22 +137,18 @@ impl Player {
 
     /// A call that opens a draft, or one on the draft in hand.
     fn drafting(&mut self, call: Drafting) -> Answer {
-        match call {
-            Drafting::Open { number, place } => self.open(number, place as usize).into(),
-            Drafting::Mode { cost, deadline } => match &self.hand {
-                Some(draft) => self.bench.mode(draft, cost, deadline).into(),
-                None => Answer::NoDraft,
-            },
-            Drafting::Link { from, to, gap } => match &self.hand {
-                Some(draft) => self
-                    .bench
-                    .link(draft, from as usize, to as usize, gap)
-                    .into(),
-                None => Answer::NoDraft,
-            },
-            Drafting::Close => self.close(),
-            Drafting::Abandon if self.end() => Answer::Done,
-            Drafting::Abandon => Answer::NoDraft,
+        match (call, &self.hand) {
+            (Drafting::Open { number, place }, _) => self.open(number, place as usize).into(),
+            (Drafting::Close, _) => self.close(),
+            (Drafting::Abandon, _) => self.abandon(),
+            (_, None) => Answer::NoDraft,
+            (Drafting::Mode { cost, deadline }, Some(draft)) => {
+                self.bench.mode(draft, cost, deadline).into()
+            }
+            (Drafting::Link { from, to, gap }, Some(draft)) => self
+                .bench
+                .link(draft, from as usize, to as usize, gap)
+                .into(),
         }
     }
 
@@ -230,7 +226,7 @@ impl Player {
     pub(crate) fn play(&mut self, call: Call, text: &[u8]) -> Answer {
         match call {
             Call::Bench(number) => {
-                self.end();
+                self.abandon();
                 self.renew(number).into()
             }
             Call::Keep(number) => self.renew(number).into(),

@@ -9,16 +9,13 @@ pub(crate) fn work_of(table: &Table, place: usize, walk: &[u8]) -> u32 {
     })
 }
 
-/// The sum of the gaps after the first mode, if each mode has one from the mode before.
-fn span_of(table: &Table, place: usize, first: u8, rest: &[u8]) -> Option<u32> {
-    let mut span: u32 = 0;
-    let mut last = usize::from(first);
-    for mode in rest {
-        let next = usize::from(*mode);
-        span = span.saturating_add(table.gap(place, last, next)?);
-        last = next;
-    }
-    Some(span)
+/// The sum of the gaps of a walk, of which `rest` are the modes after the first, if each of them has
+/// one from the mode before.
+fn span_of(table: &Table, place: usize, walk: &[u8], rest: &[u8]) -> Option<u32> {
+    walk.iter().zip(rest).try_fold(0, |span: u32, (from, to)| {
+        let gap = table.gap(place, usize::from(*from), usize::from(*to))?;
+        Some(span.saturating_add(gap))
+    })
 }
 
 /// Whether a list of modes is a walk that fits a window: none, or modes of the task, each linked to
@@ -26,7 +23,7 @@ fn span_of(table: &Table, place: usize, first: u8, rest: &[u8]) -> Option<u32> {
 pub(crate) fn is_fitting(table: &Table, place: usize, walk: &[u8], window: u32) -> bool {
     match walk {
         [] => true,
-        [first, rest @ ..] => match span_of(table, place, *first, rest) {
+        [first, rest @ ..] => match span_of(table, place, walk, rest) {
             Some(span) => usize::from(*first) < table.modes(place) && span < window,
             None => false,
         },
