@@ -10,7 +10,7 @@ use std::array;
 use store::load::TEXT;
 
 /// The table's text, the verdict, the bound of each mode by place, and the lent memory.
-#[derive(PartialEq, Eq, Drop)]
+#[derive(Drop)]
 pub struct Seen {
     text: Vec<u8>,
     verdict: Option<Verdict>,
@@ -28,6 +28,7 @@ fn text_of(heap: Global, bench: &Bench) -> Result<Vec<u8>, Refusal> {
 
 /// The bound that is shown of a mode of the task at a place, and 0 where there is none.
 fn bound_at(bench: &Bench, place: usize, mode: usize) -> u32 {
+    // Each place and mode has a cell, and 0 is what it holds of one without a bound.
     bench
         .bound(bench.table().number_at(place), mode)
         .unwrap_or(0)
@@ -62,6 +63,12 @@ impl Seen {
 
     /// Whether all is as it was seen.
     pub(crate) fn stands(&self, heap: Global, bench: &Bench, lent: &Lent) -> Result<bool, Refusal> {
-        Ok(*self == Seen::new(heap, bench, lent)?)
+        let text = text_of(heap, bench)?;
+        Ok(
+            self.text == text
+                && self.verdict == bench.verdict()
+                && self.bounds == bounds_of(bench)
+                && self.lent == *lent,
+        )
     }
 }
