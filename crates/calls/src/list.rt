@@ -9,6 +9,8 @@ use crate::names::named;
 use crate::words::{cut_at, numbers_of};
 use forms::separator::{LINE_FEED, SPACE};
 
+// The text stands beside the call, not in `Call::Load`: a call is copied as numbers alone.
+
 /// The first call of a list, if its line is one; the text that it brings; and the rest of the list.
 #[derive(Drop)]
 pub struct Step<'a> {
@@ -55,6 +57,7 @@ fn load_length(call: Option<Call>) -> Option<u32>
 fn with_text(length: u32, rest: &[u8]) -> Step<'_>
     ensures { read result ≡ load_of length rest.now }
 {
+    // A cast, since a `usize` is not made from a `u32` by `from`.
     let end = length as usize;
     if end < rest.len() {
         Step {

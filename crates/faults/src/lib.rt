@@ -55,7 +55,8 @@ pub struct LineFault {
     pub layer: Layer,
 }
 
-/// A refusal of load: its layer, the line, counted from 1, and the byte place of that line.
+/// A refusal of load: its layer, the line, counted from 1, and the byte place of that line. Line and
+/// place are 0 where load refuses before it reads a line.
 #[derive(Clone, Copy)]
 pub struct LoadFault {
     pub refusal: Refusal,

@@ -21,6 +21,7 @@ const BENCH: u32 = 1;
 fn bound_shown(bench: &Bench, task: u32, mode: usize) -> u32
     ensures { result ≡ bound_shown (state bench.now) task mode }
 {
+    // A line is written for each mode, and 0 is what it shows of one without a bound.
     bench.bound(task, mode).unwrap_or(0)
 }
 
