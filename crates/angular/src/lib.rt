@@ -110,6 +110,7 @@ impl Line for Angular {
         if place == 0 { self.graph.len() } else { 0 }
     }
 
+    // Cost and deadline share the test of the place alone: each is a question of its own.
     fn cost(&self, place: usize, mode: usize) -> u32 {
         if place != 0 {
             return 0;

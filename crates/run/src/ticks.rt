@@ -78,6 +78,8 @@ impl Play {
         }
     }
 
+    // A place is a plain number, with its bound where a job's slot or a row of times is written.
+
     /// Gives the job of a place its unit of the tick that ends at the clock, and notes the time of a
     /// job that has finished with it.
     fn work_at(&mut self, place: usize)

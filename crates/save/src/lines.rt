@@ -16,6 +16,8 @@ use table::table::Table;
 /// A task has a slot for its first line, one for each of 16 modes, and one for each pair of modes.
 pub(crate) const SLOTS: usize = 273;
 
+// A table and a place in it go together from here on: a struct of the two would be taken apart for each question.
+
 /// The first line of the task at a place.
 fn first_line(table: &Table, place: usize) -> Form
     ensures { result ≡ first_in (number_at (items table.now) place) (is_angular (slice_index_or (items table.now) place blank).make) (task_at (line_of (items table.now)) place) }

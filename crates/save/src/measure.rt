@@ -23,6 +23,7 @@ fn task_len(table: &Table, place: usize) -> usize
     ensures is { result ≡ length (spelled (item_forms (slice_index_or (items table.now) place blank))) }
     ensures short { result ≤ 14469 }
 {
+    // As `write_task` goes over the lines: this one counts where that one writes, and both ask `line_at`.
     let mut len = 0;
     for slot in 0..SLOTS {
         if let Some(form) = line_at(table, place, slot) {

@@ -139,6 +139,7 @@ impl Line for Sporadic {
         if place == 0 { 1 } else { 0 }
     }
 
+    // Cost and deadline share the test of place and mode alone: each is a question of its own.
     fn cost(&self, place: usize, mode: usize) -> u32 {
         if place == 0 && mode == 0 {
             self.cost

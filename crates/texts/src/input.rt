@@ -20,6 +20,8 @@ fn line_end(bytes: &[u8]) -> Option<usize>
     bytes.iter().position(|byte| *byte == LINE_FEED)
 }
 
+// Cut by a line that says the length; a list of calls cuts by a length that a call has, and has calls around it.
+
 /// The first text, and what follows it and its line feed.
 fn first(bytes: &[u8]) -> Option<(&[u8], &[u8])>
     ensures { option_map in_two result ≡ first_text bytes.now }

@@ -33,6 +33,7 @@ impl Bench {
     }
 
     /// Puts the verdict back to none and all bounds to 0, as every accepted edit does.
+    // Each edit calls it in a line of its own: a function around them would take each as a closure to save two lines.
     pub(crate) fn forget_verdict(&mut self)
         ensures { state self.new ≡ edited (state self.old) (state self.old).desk }
     {
