@@ -51,6 +51,9 @@ pub fn new_row(heap: Global) -> Result<Vec<u32>, Refusal>
     Ok(Vec::from_slice(heap, &[0; WINDOWS])?)
 }
 
+// The work sheet is lent, any that is long enough, and its length asked for: a struct that held it would have to say in
+// each contract that it is still the caller's. A window comes as a `u32`, which `as usize` widens for a place in a list.
+
 impl Angular {
     /// The task of a graph, over the room for its row; the row is filled from the sheet.
     pub fn new(graph: ModeGraph, mut row: Vec<u32>, sheet: &mut [u32]) -> Angular

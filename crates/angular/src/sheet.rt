@@ -10,6 +10,7 @@ use line::limits::WINDOWS;
 use modes::graph::ModeGraph;
 
 // A window is a plain number with its bound in each contract: it is taken off from and counted with at every step.
+// The cells are one list, and not a row for each mode, because they are the caller's, any that are long enough.
 
 /// A work sheet, with the graph whose modes its cells are of.
 #[derive(Clone, Copy)]

@@ -98,6 +98,7 @@ impl<'a> FilledSheet<'a> {
             let Some((m, w)) = at else {
                 return n;
             };
+            // A cast: a mode is below 16, and `try_from` would need an answer for what never comes.
             *cell = m as u8;
             at = self.onward(m, w);
         }

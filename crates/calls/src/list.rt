@@ -53,6 +53,8 @@ fn load_length(call: Option<Call>) -> Option<u32>
     }
 }
 
+// Cut by a length that a call has; an input of texts cuts by a line that says the length, and has texts alone.
+
 /// A load with its text, which a byte has to follow.
 fn with_text(length: u32, rest: &[u8]) -> Step<'_>
     ensures { read result ≡ load_of length rest.now }

@@ -37,6 +37,7 @@ fn number_of(word: &[u8]) -> Option<u32>
     if word.is_empty() {
         return None;
     }
+    // A cast: the limit keeps the number within 32 bits, so `try_from` would refuse nothing.
     digits_up_to(u64::from(u32::MAX), word).map(|number| number as u32)
 }
 

@@ -26,7 +26,8 @@ fn text_of(heap: Global, bench: &Bench) -> Result<Vec<u8>, Refusal> {
     Ok(text)
 }
 
-/// The bound that is shown of a mode of the task at a place, and 0 where there is none.
+/// The bound that is shown of a mode of the task at a place, and 0 where there is none. By place, and so for places and
+/// modes that are not there too; a report's goes by number, and what the two share is the one call.
 fn bound_at(bench: &Bench, place: usize, mode: usize) -> u32 {
     // Each place and mode has a cell, and 0 is what it holds of one without a bound.
     bench

@@ -49,5 +49,6 @@ pub fn number_of(word: &[u8]) -> Option<u32>
     if !is_plain(word) {
         return None;
     }
+    // A cast: the limit keeps the number within 32 bits, so `try_from` would refuse nothing.
     digits_up_to(LARGEST, word).map(|number| number as u32)
 }

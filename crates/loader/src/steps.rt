@@ -20,6 +20,10 @@ use text::reader::Reader;
 /// Every task goes to the end: there is no place past this one.
 const END: usize = 15;
 
+// `Kept` says of a line that neither fills a sheet nor could, and `Carries` of one that may close a task, what it leaves:
+// results, each of its own kind of line, which no struct could hold. Numbers of a line are widened by `as` where the
+// editor takes a mode, since a `usize` is not made from a `u32` by `from`.
+
 impl Loader {
     /// Nothing has been read.
     pub fn new(heap: Global) -> Result<Loader, TableFault>

@@ -21,7 +21,8 @@ const BENCH: u32 = 1;
 fn bound_shown(bench: &Bench, task: u32, mode: usize) -> u32
     ensures { result ≡ bound_shown (state bench.now) task mode }
 {
-    // A line is written for each mode, and 0 is what it shows of one without a bound.
+    // A line is written for each mode, and 0 is what it shows of one without a bound. The console's question goes by
+    // place; what the two share is the one call.
     bench.bound(task, mode).unwrap_or(0)
 }
 

@@ -57,6 +57,8 @@ impl fmt::Display for Verdict<u32> {
     }
 }
 
+// The laws are asked of any line that comes in from outside; inside, the row of a place has them.
+
 /// Judges a line, and shows the bound of each mode that comes before the verdict falls.
 ///
 /// Of the first 256 cells, cell place × 16 + mode gets the mode's bound, and every other one 0;

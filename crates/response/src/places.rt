@@ -8,6 +8,8 @@ use crate::cells::show;
 use crate::rows::Row;
 use line::Line;
 
+// The cells are lent, as in `cells`. The laws of the line are asked for where a line comes in, and a row has them.
+
 /// Finds the bounds of a place's modes, and shows them, up to the first mode that has none, which
 /// is the answer.
 fn judge_place<L: Line>(row: &Row<L>, cells: &mut [u32]) -> Option<usize>

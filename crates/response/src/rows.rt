@@ -22,6 +22,9 @@ pub struct Row<'a, L: Line> {
     ghost row: { Sums (L.meaning line.now) place sums },
 }
 
+// The laws are asked for where a line comes in; from there on each row has them. A window is widened or narrowed by
+// `as`, since it is a number of a line and a place in the row, and 1,000 at most.
+
 impl<'a, L: Line> Row<'a, L> {
     /// The row of the first place of a line: no place is above it.
     pub fn first(line: &'a L) -> Row<'a, L>

@@ -2,6 +2,8 @@
 ghost use Rattle.std.specs.Prelude.{ℕ, ◌<◌, ◌≤◌, length, slice_index};
 ghost use Rattle.response.specs.Rows.{Least};
 
+// A cast, since a `usize` is not made from a `u32` by `from`.
+
 /// The least window within the deadline that holds the cost and what the row has for that window.
 pub fn least(sums: &[u32], cost: u32, deadline: u32) -> Option<u32>
     requires room { deadline < length sums.now }

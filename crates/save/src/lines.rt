@@ -44,6 +44,8 @@ fn mode_line(table: &Table, place: usize, mode: usize) -> Option<Form>
     })
 }
 
+// Casts: modes are below 16, and `try_from` would need an answer for what never comes.
+
 /// The line of a pair of modes of the task at a place, if they are linked.
 fn link_line(table: &Table, place: usize, pair: usize) -> Option<Form>
     requires { pair < 256 }

@@ -47,6 +47,8 @@ pub(crate) fn measure(table: &Table) -> Extent
     Extent { len, last }
 }
 
+// Casts: a count is at most 16 and a place below 65,536, and `try_from` would need an answer for what never comes.
+
 /// The trailer of a table whose last task's first line begins at a place.
 pub(crate) fn trailer(table: &Table, last: usize) -> Form
     requires { last ≡ last_place (items table.now) }

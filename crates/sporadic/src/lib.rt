@@ -184,6 +184,7 @@ impl ExactLine for Sporadic {
         list: &mut [u8],
     ) -> Result<usize, Refusal> {
         may_show(1, place, window, sheet.len(), list.len())?;
+        // A cast, since a `usize` is not made from a `u32` by `from`.
         let jobs = self.releases(window) as usize;
         write_jobs(list, jobs);
         Ok(jobs)

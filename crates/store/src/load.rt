@@ -38,6 +38,8 @@ fn last(reader: &Reader<'_>, loader: Loader) -> Result<Table, LoadFault>
     Ok(loader.into_table())
 }
 
+// The work sheet is lent and its length asked for: a struct that held it would have to say that it is still the caller's.
+
 /// The table that a text spells. The sheet is as its closes leave it.
 fn read(heap: Global, text: &[u8], sheet: &mut [u32]) -> Result<Table, LoadFault>
     requires { 16016 ≤ length sheet.old }

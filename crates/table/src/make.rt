@@ -10,14 +10,14 @@ use sporadic::Sporadic;
 /// The largest number of a task; the least is 1.
 pub const NUMBERS: u32 = 999;
 
-/// The two kinds of task.
+/// Which of the two makes a task is of, without the task.
 #[derive(Clone, Copy, PartialEq, Eq, Debug)]
 pub enum Kind {
     Sporadic,
     Angular,
 }
 
-/// A task of either kind.
+/// A task of either make.
 #[derive(Drop)]
 pub enum Make {
     Sporadic(Sporadic),

@@ -11,6 +11,8 @@ use line::ranged::Ranged;
 use line::refusal::Refusal;
 use line::{ExactLine, Line};
 
+// The work sheet is lent and its length asked for: a struct that held it would have to say that it is still the caller's.
+
 impl Make {
     /// Which kind of task it is.
     pub fn kind(&self) -> Kind

@@ -10,6 +10,7 @@ use forms::separator::LINE_FEED;
 fn number_of(digits: &[u8]) -> Option<usize>
     ensures { result ≡ number_64 digits.now }
 {
+    // A cast, since a `usize` is not made from a `u64` by `from`.
     digits_up_to(u64::MAX, digits).map(|number| number as usize)
 }
 

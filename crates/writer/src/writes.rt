@@ -11,6 +11,8 @@ use forms::separator::{LINE_FEED, SPACE};
 // contract that it is still the caller's. A line is written byte by byte into it, and not by `Display`, since its end
 // content is promised where there is no heap to make a text first.
 
+// A cast: a digit is below 10, and `try_from` would need an answer for what never comes.
+
 /// The last digit of `n`.
 fn last_digit(n: u32) -> u8
     ensures { result ≡ 48 + n % 10 }

@@ -14,6 +14,8 @@ use line::limits::check_sheet;
 use line::ranged::Ranged;
 use line::refusal::Refusal;
 
+// The work sheet is lent and its length asked for: a struct that held it would have to say that it is still the caller's.
+
 impl Table {
     /// Takes the task out that stands at a place.
     fn remove_at(&mut self, place: usize) -> Task
