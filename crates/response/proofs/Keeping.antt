@@ -64,9 +64,9 @@ module _ (m : Meaning) (laws : Lawful m) (fits : AllBounds m) where
       let d = x.due in
       omega arith
 
-  none_late : (now : ℕ) (os : List (Option Job)) → ((p : ℕ) (j : Job) → Misses m now os p j → ⊥) → (l : Option Late) → LateNow m now os l → l ≡ None
+  none_late : (now : ℕ) (os : List (Option Job)) → ((p : ℕ) (j : Job) → Misses m now os p j → ⊥) → (l : Option (Late ℕ)) → LateNow m now os l → l ≡ None
   none_late now os d None h = refl
-  none_late now os d (Some l) h = absurd (d l.place h.job h.misses)
+  none_late now os d (Some l) h = absurd (d l.task h.job h.misses)
 
   module _ (s : Course) (g : Good m s) where
     served_place : idle_above s.jobs < m.count → 0 < left_of (job_at s.jobs (idle_above s.jobs))
@@ -268,7 +268,7 @@ module _ (m : Meaning) (laws : Lawful m) (fits : AllBounds m) where
   }
 
   -- No advance reports a late job.
-  told_none : (s : Course) (n : ℕ) (a : Advance) → Good m s → (r : Result (Unit {0}) Refusal) → unless r (told_from s (after_ticks m n s)) ≡ Ok a → a.late ≡ None
+  told_none : (s : Course) (n : ℕ) (a : Advance ℕ) → Good m s → (r : Result (Unit {0}) Refusal) → unless r (told_from s (after_ticks m n s)) ≡ Ok a → a.late ≡ None
   told_none s n a g (Ok x) e = let y : told_from s (after_ticks m n s) ≡ a = cc in sym (ap (λ k. k.late) y) ∙ (good_ticks m laws fits n s g).on_time
   told_none s n a g (Err x) e = let z : ◌≡◌ {A = ℕ} 0 1 = cc in absurd (omega arith)
 

@@ -11,7 +11,7 @@ use Rattle.response.specs.Bounds.{Bound}
 pub record Safe (m : Meaning) (s : Course) : Type 0 where
   pub on_time : s.late ≡ None
   pub in_time : (p i w : ℕ) → Bound m p i w → worst_at s.worst p i ≤ w
-  pub reports : (n : ℕ) (a : Advance) → advance_answer m s n ≡ Ok a → a.late ≡ None
+  pub reports : (n : ℕ) (a : Advance ℕ) → advance_answer m s n ≡ Ok a → a.late ≡ None
 
 -- Every list of releases and advances from a new run, refused ones too, leaves a safe run; so does each part of the
 -- list from its start, and so no advance among them reports a late job.

@@ -43,7 +43,7 @@ on_time m now p (Some j) h = by (eqb (due_at m p j) now) refl
     d : 0 < j.left → due_at m p j ≡ now → ⊥
     d = h j refl
 
-    by : (b : Bool) → eqb (due_at m p j) now ≡ b → cond {A = Option Late} (ltb 0 j.left && b) (Some (record { place = p; mode = j.mode })) None ≡ None
+    by : (b : Bool) → eqb (due_at m p j) now ≡ b → cond {A = Option (Late ℕ)} (ltb 0 j.left && b) (Some (record { task = p; mode = j.mode })) None ≡ None
     by true e = grind (arith, nat_tests)
     by false e = grind (arith, nat_tests)
 

@@ -109,28 +109,28 @@ record MissFrom (m : Meaning) (now p : ℕ) (os : List (Option Job)) (q : ℕ) (
   some : 0 < j.left
   due : due_at m (p + q) j ≡ now
 
-data Lateness (m : Meaning) (now p : ℕ) (o : Option Job) : Option Late → Type 0 where
-  missed : (j : Job) → o ≡ Some j → 0 < j.left → due_at m p j ≡ now → Lateness m now p o (Some (record { place = p; mode = j.mode }))
+data Lateness (m : Meaning) (now p : ℕ) (o : Option Job) : Option (Late ℕ) → Type 0 where
+  missed : (j : Job) → o ≡ Some j → 0 < j.left → due_at m p j ≡ now → Lateness m now p o (Some (record { task = p; mode = j.mode }))
   fine : ((j : Job) → o ≡ Some j → 0 < j.left → due_at m p j ≡ now → ⊥) → Lateness m now p o None
 
 lateness : (m : Meaning) (now p : ℕ) (o : Option Job) → Lateness m now p o (late_in m now p o)
 lateness m now p None = fine (λ j e l d. let z : ◌≡◌ {A = ℕ} 0 1 = cc in omega arith)
 lateness m now p (Some j) = by (ltb 0 j.left) refl (eqb (due_at m p j) now) refl
   where
-    by : (a : Bool) → ltb 0 j.left ≡ a → (b : Bool) → eqb (due_at m p j) now ≡ b → Lateness m now p (Some j) (cond (a && b) (Some (record { place = p; mode = j.mode })) None)
+    by : (a : Bool) → ltb 0 j.left ≡ a → (b : Bool) → eqb (due_at m p j) now ≡ b → Lateness m now p (Some j) (cond (a && b) (Some (record { task = p; mode = j.mode })) None)
     by true e true f = missed j refl (ltb-true _ _ e) (eqb-true _ _ f)
     by true e false f = fine (λ k x l d. let y : j ≡ k = cc in eqb-false _ _ f (ap (due_at m p) y ∙ d))
     by false e b f = fine (λ k x l d. let y : j ≡ k = cc in let z = ap (λ i. i.left) y in let w = ltb-false _ _ e in omega arith)
 
-record LateFrom (m : Meaning) (now p : ℕ) (os : List (Option Job)) (l : Late) : Type 0 where
+record LateFrom (m : Meaning) (now p : ℕ) (os : List (Option Job)) (l : Late ℕ) : Type 0 where
   at : ℕ
   job : Job
-  place : l.place ≡ p + at
+  place : l.task ≡ p + at
   mode : job.mode ≡ l.mode
   misses : MissFrom m now p os at job
   above : (q : ℕ) (k : Job) → q < at → MissFrom m now p os q k → ⊥
 
-abbrev Found : Meaning → ℕ → ℕ → List (Option Job) → Option Late → Type 0
+abbrev Found : Meaning → ℕ → ℕ → List (Option Job) → Option (Late ℕ) → Type 0
 Found m now p os None = (q : ℕ) (j : Job) → MissFrom m now p os q j → ⊥
 Found m now p os (Some l) = LateFrom m now p os l
 
@@ -144,7 +144,7 @@ miss_down m now p o os q j x = record { here = x.here; some = x.some; due = subs
 miss_here : (m : Meaning) (now p : ℕ) (o : Option Job) (os : List (Option Job)) (j : Job) → ((k : Job) → o ≡ Some k → 0 < k.left → due_at m p k ≡ now → ⊥) → MissFrom m now p (o ∷ os) 0 j → ⊥
 miss_here m now p o os j d x = d j x.here x.some (subst (λ k. due_at m k j ≡ now) {x = p + 0} {y = p} (omega arith) x.due)
 
-found_next : (m : Meaning) (now p : ℕ) (o : Option Job) (os : List (Option Job)) (r rest : Option Late) → Lateness m now p o r → Found m now (suc p) os rest → Found m now p (o ∷ os) (or_else r rest)
+found_next : (m : Meaning) (now p : ℕ) (o : Option Job) (os : List (Option Job)) (r rest : Option (Late ℕ)) → Lateness m now p o r → Found m now (suc p) os rest → Found m now p (o ∷ os) (or_else r rest)
 found_next m now p o os r rest (missed j e l d) f = record {
   at = 0;
   job = j;
@@ -181,30 +181,30 @@ miss_from m now os q j x = record { here = x.here; some = x.some; due = subst (�
 from_miss : (m : Meaning) (now : ℕ) (os : List (Option Job)) (q p : ℕ) (j : Job) → p ≡ 0 + q → MissFrom m now 0 os q j → Misses m now os p j
 from_miss m now os q p j e x = record { here = subst (λ k. job_at os k ≡ Some j) (sym (e ∙ zero-add q)) x.here; some = x.some; due = subst (λ k. due_at m k j ≡ now) (sym e) x.due }
 
-late_now : (m : Meaning) (now : ℕ) (os : List (Option Job)) (r : Option Late) → Found m now 0 os r → LateNow m now os r
+late_now : (m : Meaning) (now : ℕ) (os : List (Option Job)) (r : Option (Late ℕ)) → Found m now 0 os r → LateNow m now os r
 late_now m now os None f = λ q j x. f q j (miss_from m now os q j x)
 late_now m now os (Some l) f = record {
   job = f.job;
-  misses = from_miss m now os f.at l.place f.job f.place f.misses;
+  misses = from_miss m now os f.at l.task f.job f.place f.misses;
   mode = f.mode;
   above = λ q k h x. f.above q k (let e = f.place in omega arith) (miss_from m now os q k x);
 }
 
-one_late : (m : Meaning) (now : ℕ) (os : List (Option Job)) (a b : Option Late) → LateNow m now os a → LateNow m now os b → a ≡ b
+one_late : (m : Meaning) (now : ℕ) (os : List (Option Job)) (a b : Option (Late ℕ)) → LateNow m now os a → LateNow m now os b → a ≡ b
 one_late m now os None None f g = refl
-one_late m now os None (Some l) f g = absurd (f l.place g.job g.misses)
-one_late m now os (Some l) None f g = absurd (g l.place f.job f.misses)
-one_late m now os (Some l) (Some n) f g = elim (cases_order l.place n.place) [
+one_late m now os None (Some l) f g = absurd (f l.task g.job g.misses)
+one_late m now os (Some l) None f g = absurd (g l.task f.job f.misses)
+one_late m now os (Some l) (Some n) f g = elim (cases_order l.task n.task) [
   | inl e ↦
-      let x : job_at os n.place ≡ Some f.job = subst (λ k. job_at os k ≡ Some f.job) e f.misses.here in
+      let x : job_at os n.task ≡ Some f.job = subst (λ k. job_at os k ≡ Some f.job) e f.misses.here in
       let y = g.misses.here in
       let z : f.job ≡ g.job = cc in
-      same l.place n.place l.mode n.mode e (sym f.mode ∙ ap (λ j. j.mode) z ∙ g.mode)
-  | inr d ↦ elim d [ inl h ↦ absurd (g.above l.place f.job h f.misses) | inr h ↦ absurd (f.above n.place g.job h g.misses) ]
+      same l.task n.task l.mode n.mode e (sym f.mode ∙ ap (λ j. j.mode) z ∙ g.mode)
+  | inr d ↦ elim d [ inl h ↦ absurd (g.above l.task f.job h f.misses) | inr h ↦ absurd (f.above n.task g.job h g.misses) ]
 ]
   where
-    same : (p q i j : ℕ) → p ≡ q → i ≡ j → ◌≡◌ {A = Option Late} (Some (record { place = p; mode = i })) (Some (record { place = q; mode = j }))
-    same p q i j a b = λ x. Some (record { place = a x; mode = b x })
+    same : (p q i j : ℕ) → p ≡ q → i ≡ j → ◌≡◌ {A = Option (Late ℕ)} (Some (record { task = p; mode = i })) (Some (record { task = q; mode = j }))
+    same p q i j a b = λ x. Some (record { task = a x; mode = b x })
 
 -- The computed tick keeps the rules.
 module _ (m : Meaning) (s : Course) (w : Whole s) where

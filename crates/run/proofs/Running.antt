@@ -45,7 +45,7 @@ passes_only m {n} {s} w (tick {n = k} {t = t} on a rest) =
     let e = (tick_by_rules m s t w).0 a in
     passes_only m (subst Whole (sym e) (whole_tick m s w)) rest ∙ ap (after_ticks m k) e ∙ sym (ticks_more m k s on)
 
-passes_by : (m : Meaning) (n : ℕ) (s : Course) (o : Option Late) → s.late ≡ o → Whole s → Passes m n (ticked m s) (after_ticks m n (ticked m s)) → Passes m (suc n) s (after_ticks m (suc n) s)
+passes_by : (m : Meaning) (n : ℕ) (s : Course) (o : Option (Late ℕ)) → s.late ≡ o → Whole s → Passes m n (ticked m s) (after_ticks m n (ticked m s)) → Passes m (suc n) s (after_ticks m (suc n) s)
 passes_by m n s None e w rest = subst (Passes m (suc n) s) (sym (ticks_more m n s e)) (tick e (tick_ruled m s w) rest)
 passes_by m n s (Some l) e w rest = subst (Passes m (suc n) s) (sym (ticks_late m (suc n) s (ap is_some e))) (ended e)
 
@@ -62,7 +62,7 @@ not_else : {A : Type 0} (b : Bool) (e : Refusal) (r : Result A Refusal) → is_o
 not_else true e r h = (refl, h)
 not_else false e r h = absurd (false≢true h)
 
-none_late : (o : Option Late) → is_some o ≡ false → o ≡ None
+none_late : (o : Option (Late ℕ)) → is_some o ≡ false → o ≡ None
 none_late None e = refl
 none_late (Some l) e = absurd (true≢false e)
 

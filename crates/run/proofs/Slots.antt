@@ -12,7 +12,7 @@ use Rattle.run.specs.Ticks.{idle_above, served, late_in, first_late}
 use Rattle.run.specs.Steps.{busy, undue, undue_all}
 
 -- The parts of a run, one by one.
-pub same_course : (c d : ℕ) (j k : List (Option Job)) (w v : List ℕ) (l n : Option Late) → c ≡ d → j ≡ k → w ≡ v → l ≡ n →
+pub same_course : (c d : ℕ) (j k : List (Option Job)) (w v : List ℕ) (l n : Option (Late ℕ)) → c ≡ d → j ≡ k → w ≡ v → l ≡ n →
     ◌≡◌ {A = Course} (record { clock = c; jobs = j; worst = w; late = l }) (record { clock = d; jobs = k; worst = v; late = n })
 same_course c d j k w v l n pc pj pw pl = λ i. record { clock = pc i; jobs = pj i; worst = pw i; late = pl i }
 
@@ -122,11 +122,11 @@ late_none m now p (o ∷ os) h =
 late_next : (m : Meaning) (now p : ℕ) (o : Option Job) (os : List (Option Job)) → late_in m now p o ≡ None → first_late m now p (o ∷ os) ≡ first_late m now (p + 1) os
 late_next m now p o os e = rw e (ap (λ k. first_late m now k os) {x = suc p} {y = p + 1} (omega arith))
 
-late_here : (m : Meaning) (now p : ℕ) (o : Option Job) (os : List (Option Job)) (l : Late) → late_in m now p o ≡ Some l → first_late m now p (o ∷ os) ≡ Some l
+late_here : (m : Meaning) (now p : ℕ) (o : Option Job) (os : List (Option Job)) (l : Late ℕ) → late_in m now p o ≡ Some l → first_late m now p (o ∷ os) ≡ Some l
 late_here m now p o os l e = rw e
 
 -- The first place that is late is the highest one.
-late_first : (m : Meaning) (now p : ℕ) (os : List (Option Job)) (i : ℕ) (l : Late) → late_in m now (p + i) (job_at os i) ≡ Some l → ((k : ℕ) → k < i → late_in m now (p + k) (job_at os k) ≡ None) → first_late m now p os ≡ Some l
+late_first : (m : Meaning) (now p : ℕ) (os : List (Option Job)) (i : ℕ) (l : Late ℕ) → late_in m now (p + i) (job_at os i) ≡ Some l → ((k : ℕ) → k < i → late_in m now (p + k) (job_at os k) ≡ None) → first_late m now p os ≡ Some l
 late_first m now p [] i l e none = cc
 late_first m now p (o ∷ os) zero l e none = late_here m now p o os l (subst (λ k. late_in m now k o ≡ Some l) {x = p + 0} {y = p} (omega arith) e)
 late_first m now p (o ∷ os) (suc i) l e none =
@@ -135,7 +135,7 @@ late_first m now p (o ∷ os) (suc i) l e none =
     (λ k h. subst (λ q. late_in m now q (job_at os k) ≡ None) {x = p + suc k} {y = p + 1 + k} (omega arith) (none (suc k) (omega arith)))
 
 -- What is found of the places in turn.
-pub late_found : (m : Meaning) (now : ℕ) (os : List (Option Job)) (r : Option Late) →
+pub late_found : (m : Meaning) (now : ℕ) (os : List (Option Job)) (r : Option (Late ℕ)) →
     MatchOption r ((k : ℕ) → k < length os → late_in m now k (job_at os k) ≡ None) (λ l. (i : ℕ) × (i < length os) × (late_in m now i (job_at os i) ≡ Some l) × ((k : ℕ) → k < i → late_in m now k (job_at os k) ≡ None)) →
     r ≡ first_late m now 0 os
 late_found m now os None none =

@@ -43,14 +43,14 @@ may_advance s n =
     (cond (nat_lt 1000000 (s.clock + n)) (Err PastClock) (Ok tt)))
 
 -- What an advance tells: the ticks done, and the late place and mode, if any.
-abbrev pub told_from : Course → Course → Advance
+abbrev pub told_from : Course → Course → Advance ℕ
 told_from s t = record { ticks = t.clock - s.clock; late = t.late }
 
 abbrev pub unless : {A : Type 0} → Result (Unit {0}) Refusal → A → Result A Refusal
 unless (Ok _) x = Ok x
 unless (Err e) x = Err e
 
-abbrev pub advance_answer : Meaning → Course → ℕ → Result Advance Refusal
+abbrev pub advance_answer : Meaning → Course → ℕ → Result (Advance ℕ) Refusal
 advance_answer m s n = unless (may_advance s n) (told_from s (after_ticks m n s))
 
 abbrev pub after_advance : Meaning → Course → ℕ → Course

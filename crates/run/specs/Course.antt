@@ -12,7 +12,7 @@ pub record Course : Type 0 where
   pub clock : ℕ
   pub jobs : List (Option Job)
   pub worst : List ℕ
-  pub late : Option Late
+  pub late : Option (Late ℕ)
 
 -- A run before anything has happened.
 abbrev pub fresh : Course

@@ -32,14 +32,14 @@ pub record Misses (m : Meaning) (now : ℕ) (jobs : List (Option Job)) (p : ℕ)
   pub due : j.release + deadline_in (task_at m p) j.mode ≡ now
 
 -- The late place is the highest one whose job misses its deadline.
-pub record Latest (m : Meaning) (now : ℕ) (jobs : List (Option Job)) (l : Late) : Type 0 where
+pub record Latest (m : Meaning) (now : ℕ) (jobs : List (Option Job)) (l : Late ℕ) : Type 0 where
   pub job : Job
-  pub misses : Misses m now jobs l.place job
+  pub misses : Misses m now jobs l.task job
   pub mode : job.mode ≡ l.mode
-  pub above : (q : ℕ) (k : Job) → q < l.place → Misses m now jobs q k → ⊥
+  pub above : (q : ℕ) (k : Job) → q < l.task → Misses m now jobs q k → ⊥
 
 -- Which place is late at the clock `now`, if any is.
-abbrev pub LateNow : Meaning → ℕ → List (Option Job) → Option Late → Type 0
+abbrev pub LateNow : Meaning → ℕ → List (Option Job) → Option (Late ℕ) → Type 0
 LateNow m now jobs None = (p : ℕ) (j : Job) → Misses m now jobs p j → ⊥
 LateNow m now jobs (Some l) = Latest m now jobs l
 
@@ -59,7 +59,7 @@ pub record Tick (m : Meaning) (s t : Course) : Type 0 where
 -- n ticks take s to t: none after a late one.
 pub data Passes (m : Meaning) : ℕ → Course → Course → Type 0 where
   over : {s : Course} → Passes m 0 s s
-  ended : {n : ℕ} {s : Course} {l : Late} → s.late ≡ Some l → Passes m (suc n) s s
+  ended : {n : ℕ} {s : Course} {l : Late ℕ} → s.late ≡ Some l → Passes m (suc n) s s
   tick : {n : ℕ} {s t u : Course} → s.late ≡ None → Tick m s t → Passes m n t u → Passes m (suc n) s u
 
 -- A job of cost c in mode i may be released at place p: the line has the mode and allows the cost, there is a gap

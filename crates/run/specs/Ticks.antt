@@ -33,16 +33,16 @@ abbrev pub due_at : Meaning → ℕ → Job → ℕ
 due_at m p j = j.release + deadline_in (task_at m p) j.mode
 
 -- The lateness of a job of a place at the clock `now`: work is left, and it is due.
-abbrev pub late_in : Meaning → ℕ → ℕ → Option Job → Option Late
+abbrev pub late_in : Meaning → ℕ → ℕ → Option Job → Option (Late ℕ)
 late_in m now p None = None
-late_in m now p (Some j) = cond (nat_lt 0 j.left && due_at m p j == now) (Some (record { place = p; mode = j.mode })) None
+late_in m now p (Some j) = cond (nat_lt 0 j.left && due_at m p j == now) (Some (record { task = p; mode = j.mode })) None
 
-abbrev pub or_else : Option Late → Option Late → Option Late
+abbrev pub or_else : Option (Late ℕ) → Option (Late ℕ) → Option (Late ℕ)
 or_else None later = later
 or_else (Some l) later = Some l
 
 -- The highest place that is late, of the places from p on.
-abbrev pub first_late : Meaning → ℕ → ℕ → List (Option Job) → Option Late
+abbrev pub first_late : Meaning → ℕ → ℕ → List (Option Job) → Option (Late ℕ)
 first_late m now p [] = None
 first_late m now p (o ∷ os) = or_else (late_in m now p o) (first_late m now (suc p) os)
 

@@ -53,7 +53,7 @@ impl Play {
     }
 
     /// Advances by a number of ticks, or up to the one in which a job is late.
-    pub fn advance<L: Line>(&mut self, line: &L, ticks: u32) -> Result<Advance, Refusal>
+    pub fn advance<L: Line>(&mut self, line: &L, ticks: u32) -> Result<Advance<usize>, Refusal>
         ensures answer { result ≡ advance_answer (L.meaning line.now) (course self.old) ticks }
         ensures after { course self.new ≡ after_advance (L.meaning line.now) (course self.old) ticks }
     {

@@ -80,13 +80,13 @@ impl<'a, L: Line> Moment<'a, L> {
     }
 
     /// The lateness of a place's job.
-    fn late_in(&self, place: usize, slot: Option<Job>) -> Option<Late>
+    fn late_in(&self, place: usize, slot: Option<Job>) -> Option<Late<usize>>
         ensures { result ≡ late_in (L.meaning self.now.line.now) self.now.clock place slot }
     {
         let job = slot?;
         if job.left > 0 && self.due_at(place, job) == u64::from(self.clock) {
             return Some(Late {
-                place,
+                task: place,
                 mode: job.mode,
             });
         }
@@ -94,7 +94,7 @@ impl<'a, L: Line> Moment<'a, L> {
     }
 
     /// The highest place that is late, with the mode of its job.
-    pub fn first_late(&self, jobs: &[Option<Job>]) -> Option<Late>
+    pub fn first_late(&self, jobs: &[Option<Job>]) -> Option<Late<usize>>
         ensures { result ≡ first_late (L.meaning self.now.line.now) self.now.clock 0 jobs.now }
     {
         jobs.iter()

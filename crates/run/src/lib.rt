@@ -28,22 +28,22 @@ pub struct Job {
     left: u32,
 }
 
-/// The place and mode of a job that was late.
+/// The task and mode of a job that was late; the task is named by a `Task`: its place, or a number of its own.
 #[derive(Clone, Copy, PartialEq, Eq, Debug)]
-pub struct Late {
-    /// The place of its task.
-    pub place: usize,
-    /// Its mode.
+pub struct Late<Task> {
+    /// The task.
+    pub task: Task,
+    /// The mode of its job.
     pub mode: usize,
 }
 
 /// What an advance did.
 #[derive(Clone, Copy, PartialEq, Eq, Debug)]
-pub struct Advance {
+pub struct Advance<Task> {
     /// The ticks done: all that were asked for, or up to the late one.
     pub ticks: u32,
     /// The late job, with which the run has ended.
-    pub late: Option<Late>,
+    pub late: Option<Late<Task>>,
 }
 
 /// A run: the clock, the last job of each place, the longest times, and the late job, if any.
@@ -52,6 +52,6 @@ pub struct Play {
     clock: u32,
     jobs: [Option<Job>; PLACES],
     worst: [[u32; MODES]; PLACES],
-    late: Option<Late>,
+    late: Option<Late<usize>>,
     ghost rows: { AllRows worst },
 }
