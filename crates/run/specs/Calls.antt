@@ -18,6 +18,14 @@ abbrev pub ready : Meaning → ℕ → ℕ → ℕ → Option Job → Bool
 ready m p i now None = true
 ready m p i now (Some j) = passed (gap_in (task_at m p) j.mode i) j.release now
 
+-- The numbers of a job: a mode from 0 to 15, and a cost from 1 to 1,000.
+abbrev pub job_numbers : ℕ → ℕ → Result (Unit {0}) Refusal
+job_numbers i c = cond (nat_le 16 i || c == 0 || nat_lt 1000 c) (Err OutOfRange) (Ok tt)
+
+-- An advance is by 1 to 1,000 ticks.
+abbrev pub tick_numbers : ℕ → Result (Unit {0}) Refusal
+tick_numbers n = cond (n == 0 || nat_lt 1000 n) (Err OutOfRange) (Ok tt)
+
 -- What a release answers. The refusals stand by rising number.
 abbrev pub release_answer : Meaning → Course → ℕ → ℕ → ℕ → Result (Unit {0}) Refusal
 release_answer m s p i c =

@@ -5,9 +5,10 @@ ghost use Rattle.run.specs.Calls.{release_answer, after_release, may_advance, ad
 ghost use Rattle.run.specs.Rules.{TickByRules, RunsByRules};
 
 use crate::due::Moment;
-use crate::{ADVANCE, Advance, CLOCK, Job, Play};
+use crate::numbers::{check_job, check_ticks};
+use crate::{Advance, CLOCK, Job, Play};
 use line::Line;
-use line::limits::{MODES, PLACES, WINDOW};
+use line::limits::{MODES, PLACES};
 use line::refusal::Refusal;
 
 impl Play {
@@ -100,9 +101,10 @@ impl Play {
     ) -> Result<(), Refusal>
         ensures { result ≡ release_answer (L.meaning line.now) (course self.now) place mode cost }
     {
-        if place >= PLACES || mode >= MODES || cost == 0 || cost > WINDOW {
+        if place >= PLACES {
             return Err(Refusal::OutOfRange);
         }
+        check_job(mode, cost)?;
         if mode >= line.modes(place) {
             return Err(Refusal::NotThere);
         }
@@ -122,9 +124,7 @@ impl Play {
     fn may_advance(&self, ticks: u32) -> Result<(), Refusal>
         ensures { result ≡ may_advance (course self.now) ticks }
     {
-        if ticks == 0 || ticks > ADVANCE {
-            return Err(Refusal::OutOfRange);
-        }
+        check_ticks(ticks)?;
         if self.late.is_some() {
             return Err(Refusal::EndedLate);
         }

@@ -12,6 +12,7 @@ use line::limits::{MODES, PLACES};
 
 mod calls;
 mod due;
+pub mod numbers;
 mod ticks;
 
 /// The clock goes no further than this.

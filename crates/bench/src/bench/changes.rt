@@ -5,7 +5,9 @@ ghost use Rattle.bench.specs.State.{state, take_answer, after_take, ChangeDone};
 
 use super::Bench;
 use line::change::Change;
+use line::limits::check_sheet;
 use line::refusal::Refusal;
+use table::make::check_task;
 
 // The calls stand as they are named, and each names the law, for its caller to read there.
 
@@ -16,6 +18,8 @@ impl Bench {
         ensures after { state self.new ≡ after_take (state self.old) number }
         ensures eases { OnOk result (Eases (state self.new).desk.tasks (state self.old).desk.tasks) }
     {
+        check_task(number, 0)?;
+        self.check_no_run()?;
         self.editor.take(number)?;
         self.forget_verdict();
         Ok(())
@@ -26,6 +30,10 @@ impl Bench {
         ensures done { ChangeDone (state self.old) number change sheet.old result (state self.new) sheet.new }
         ensures eases { OnOk result (Eases (state self.new).desk.tasks (state self.old).desk.tasks) }
     {
+        check_task(number, 0)?;
+        change.check()?;
+        check_sheet(sheet.len())?;
+        self.check_no_run()?;
         self.editor.change(number, change, sheet)?;
         self.forget_verdict();
         Ok(())

@@ -7,12 +7,15 @@ use crate::ticket::Draft;
 use line::limits::check_sheet;
 use line::refusal::Refusal;
 use modes::graph::{check_link, check_mode};
+use table::make::check_task;
 
 impl Bench {
     /// Opens the draft of an angular task that is to stand at a place, and hands out its ticket.
     pub fn open(&mut self, number: u32, place: usize) -> Result<Draft, Refusal>
         ensures { OpenDone (state self.old) number place result (state self.new) }
     {
+        check_task(number, place)?;
+        self.check_no_run()?;
         self.editor.open(number, place)?;
         Ok(Draft::of(self.id))
     }

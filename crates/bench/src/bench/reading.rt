@@ -1,7 +1,7 @@
 //! Reading what stands on a bench.
 ghost use Rattle.std.specs.Prelude.{◌≡◌};
 ghost use Rattle.table.specs.Tables.{items};
-ghost use Rattle.bench.specs.State.{state, bound_answer};
+ghost use Rattle.bench.specs.State.{state, bound_answer, mode_in_range};
 
 use super::Bench;
 use crate::verdict::Verdict;
@@ -10,6 +10,17 @@ use line::limits::MODES;
 use line::refusal::Refusal;
 use table::make::check_task;
 use table::table::Table;
+
+/// Refuses a task's number or a mode out of range: 1 to 999, and 0 to 15.
+pub(crate) fn check_mode_of(number: u32, mode: usize) -> Result<(), Refusal>
+    ensures { result ≡ mode_in_range number mode }
+{
+    check_task(number, 0)?;
+    if mode >= MODES {
+        return Err(Refusal::OutOfRange);
+    }
+    Ok(())
+}
 
 impl Bench {
     /// The table, lent as an exact line.
@@ -27,10 +38,11 @@ impl Bench {
     }
 
     /// The bound that is shown of a mode, and 0 where none is.
+    // 0 and not an Option: docs/CALLS.md says so of every call that shows a bound or a time.
     pub fn bound(&self, number: u32, mode: usize) -> Result<u32, Refusal>
         ensures { result ≡ bound_answer (state self.now) number mode }
     {
-        check_task(number, mode)?;
+        check_mode_of(number, mode)?;
         let table = self.editor.table();
         match table.place_of(number) {
             Some(place) if mode < table.modes(place) => Ok(self.bounds[place * MODES + mode]),
