@@ -11,6 +11,7 @@ use Rattle.table.specs.Items.{Item, line_of, place_of, without, changed_at}
 use Rattle.table.proofs.Easing.{changed_eased, removed_eased}
 use Rattle.response.proofs.Easing.{bounds_ease, fits_still}
 use Rattle.editor.specs.Desks as desks
+use Rattle.editor.proofs.Passing.{second}
 use Rattle.editor.proofs.Finding.{place_within, take_place, change_place}
 use Rattle.bench.specs.Easing.{Eases}
 use Rattle.bench.specs.State.{State, edited, no_run, take_answer, after_take, ChangeDone}
@@ -24,11 +25,6 @@ eases is was e = record {
 
 same_tasks : (s t : State) → t ≡ s → t.desk.tasks ≡ s.desk.tasks
 same_tasks s t e = ap (λ (x : State). x.desk.tasks) e
-
--- Where two checks pass, the second one does.
-pub second : (a b : Answer) → and_then a b ≡ Ok tt → b ≡ Ok tt
-second (Ok u) b e = e
-second (Err e) b h = absurd (cc (h))
 
 pub take_eases : (s t : State) (number : ℕ) (r : Answer) → r ≡ take_answer s number → t ≡ after_take s number → IfOk r (λ _. Eases t.desk.tasks s.desk.tasks)
 take_eases s t number (Err e) answer after = tt

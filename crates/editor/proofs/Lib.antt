@@ -1,2 +1,3 @@
+pub mod Passing
 pub mod Finding
 pub mod Drafting

@@ -9,6 +9,7 @@ use Rattle.table.specs.Tables.{items}
 use Rattle.line.specs.Answers.{Answer, and_then, sheet_answer}
 use Rattle.modes.specs.Plans.{whole_answer}
 use Rattle.editor.specs.Drafts.{Outline, outline, held}
+use Rattle.editor.proofs.Passing.{second}
 use Rattle.editor.specs.Desks.{Desk, desk, put_answer, after_put, tasks_with, CloseLeaves, close_answer, on_draft, after_close}
 use Rattle.editor.specs.declared.editor.Editor.{Editor}
 use Rattle.editor.specs.declared.editor.Sketch.{Sketch}
@@ -36,10 +37,6 @@ closed_last is (Some o) first was now h l s e =
     let i : Item = record { number = o.number; make = angular o.plan } in
     let p : entered is o.place i ≡ is ++ i ∷ [] = ap (λ k. entered is k i) (eqb-true o.place 15 l) ∙ entered_last is i h in
     subst (λ (xs : List Item). SheetAfter xs first now) (sym p) (sheet_more is i first was now s e)
-
-second : (a b : Answer) → and_then a b ≡ Ok tt → b ≡ Ok tt
-second (Ok u) b e = e
-second (Err x) b e = let z : ◌≡◌ {A = ℕ} 0 1 = cc in absurd (omega arith)
 
 -- An accepted close of the draft is the step that closes the task above.
 pub closed_step : (d : Desk) (place cells : ℕ) (d' : Desk) → close_answer d cells ≡ Ok tt → d' ≡ after_close d → closing (record { desk = d; last = place }) ≡ Ok (record { desk = d'; last = place })

@@ -1,15 +1,16 @@
 -- Reading a text line by line comes to the end that the whole text comes to. Assumes nothing.
-use Rattle.std.proofs.Common.{◌≡◌, ℕ, ◌<◌, ◌≤◌, Bool, true, false, ◌⊎◌, List, ◌++◌, length, take, is_ok, Ok, Err, Result, sym, ap, ◌∙◌, subst, subst₂, inl, inr, arith, length-append}
+use Rattle.std.proofs.Common.{◌≡◌, ℕ, ◌<◌, ◌≤◌, Bool, true, false, ◌⊎◌, List, ◌++◌, cond, ltb, length, take, is_ok, Ok, Err, Result, sym, ap, ◌∙◌, subst, subst₂, inl, inr, arith, length-append}
 use lib.Seq.{take-append-le}
 use Rattle.std.proofs.lemmas.List.{take_all}
-use Rattle.line.specs.declared.refusal.Refusal.TheVariants.{NoMemory, Trailer}
+use Rattle.line.specs.declared.refusal.Refusal.TheVariants.{OutOfRange, NoMemory, Trailer}
+use Rattle.line.specs.Answers.{and_then, sheet_answer}
 use Rattle.table.specs.Items.{Item}
 use Rattle.table.specs.Tables.{items}
 use Rattle.table.specs.declared.table.Table.{Table}
 use Rattle.std.proofs.lemmas.Bool.{cond-true}
-use Rattle.std.proofs.lemmas.Bool.Decides.{nat_tests}
 use Rattle.editor.specs.Desks as desks
-use Rattle.bench.specs.State.{State, edited, after_install}
+use Rattle.editor.proofs.Passing.{second}
+use Rattle.bench.specs.State.{State, edited, no_run, install_answer, after_install}
 use Rattle.forms.specs.declared.form.Form.{Form}
 use Rattle.forms.specs.Places.{At, rest_of}
 use Rattle.forms.specs.Reads.{Spelled}
@@ -56,13 +57,14 @@ pub loaded : (s : State) (text sheet : List ℕ) (is : List Item) (s' : State) (
     → sheet' ≡ work'
     → Loaded s text sheet s' sheet'
 loaded s text sheet is s' work work' sheet' may same reads closes after copied =
-    let ok : desks.install_answer s.desk ≡ Ok tt = grind (arith, nat_tests, may) in
-    let yes' : is_ok (desks.install_answer s.desk) ≡ true = ap is_ok ok in
+    let room = sheet_answer (length sheet) in
+    let all = second room (install_answer s) (second (cond (ltb 65535 (length text)) (Err OutOfRange) (Ok tt)) (and_then room (install_answer s)) may) in
+    let own = second (no_run s) (desks.install_answer s.desk) all in
     record {
       tasks = is;
       may = may;
       reads = reads;
-      after = after ∙ cond-true _ _ _ yes' ∙ ap (edited s) (cond-true _ _ _ yes');
+      after = after ∙ cond-true _ _ _ (ap is_ok all) ∙ ap (edited s) (cond-true _ _ _ (ap is_ok own));
       closes = subst₂ (SheetAfter is) same (sym copied) closes;
     }
 
