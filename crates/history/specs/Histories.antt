@@ -1,6 +1,6 @@
 -- Lists of calls on a bench, and the benches that they lead to. Each call does what its own contract says, in the same
 -- words. Assumes nothing.
-use Rattle.std.specs.Prelude.{◌≡◌, ℕ, Bool, true, false, ◌&&◌, List, [], ◌∷◌, length, is_ok, Result}
+use Rattle.std.specs.Prelude.{◌≡◌, ℕ, Bool, true, false, ◌&&◌, List, [], ◌∷◌, is_ok, Result}
 use Rattle.line.specs.declared.refusal.Refusal.{Refusal}
 use Rattle.line.specs.declared.change.Change.{Change}
 use Rattle.line.specs.declared.change.Change.TheVariants.{Lower, Widen, Cut}
@@ -18,9 +18,9 @@ use Rattle.store.specs.Loads.{LoadDone}
 -- and a text. Nothing is asked of any of them.
 pub data Call : Type 0 where
   put : (number place cost period deadline : ℕ) → Call
-  open : (number place : ℕ) → Call
-  mode : (ticket cost deadline : ℕ) → Call
-  link : (ticket from to gap : ℕ) → Call
+  open_draft : (number place : ℕ) → Call
+  add_mode : (ticket cost deadline : ℕ) → Call
+  add_link : (ticket from to gap : ℕ) → Call
   close : (ticket : ℕ) (sheet : List ℕ) → Call
   abandon : (ticket : ℕ) → Call
   take : (number : ℕ) → Call
@@ -41,9 +41,9 @@ Changes s number c sheet ok s' = (r : Answer) × (sheet' : List ℕ) × (ok ≡ 
 -- The call takes a bench from s to s', and `ok` says whether it was accepted; a call that has no refusal always is.
 abbrev pub Does : State → Call → Bool → State → Type 0
 Does s (put number place cost period deadline) ok s' = (ok ≡ is_ok (put_answer s number place cost period deadline)) × (s' ≡ after_put s number place cost period deadline)
-Does s (open number place) ok s' = (r : Result (Ticket Drafting) Refusal) × (ok ≡ is_ok r) × OpenDone s number place r s'
-Does s (mode ticket cost deadline) ok s' = (ok ≡ is_ok (mode_answer s ticket cost deadline)) × (s' ≡ after_mode s ticket cost deadline)
-Does s (link ticket from to gap) ok s' = (ok ≡ is_ok (link_answer s ticket from to gap)) × (s' ≡ after_link s ticket from to gap)
+Does s (open_draft number place) ok s' = (r : Result (Ticket Drafting) Refusal) × (ok ≡ is_ok r) × OpenDone s number place r s'
+Does s (add_mode ticket cost deadline) ok s' = (ok ≡ is_ok (mode_answer s ticket cost deadline)) × (s' ≡ after_mode s ticket cost deadline)
+Does s (add_link ticket from to gap) ok s' = (ok ≡ is_ok (link_answer s ticket from to gap)) × (s' ≡ after_link s ticket from to gap)
 Does s (close ticket sheet) ok s' = (r : Answer) × (sheet' : List ℕ) × (ok ≡ is_ok r) × CloseWith s ticket sheet r s' sheet'
 Does s (abandon ticket) ok s' = (ok ≡ true) × (s' ≡ after_abandon s ticket)
 Does s (take number) ok s' = (ok ≡ is_ok (take_answer s number)) × (s' ≡ after_take s number)

@@ -38,7 +38,7 @@ module _ (t u : Task) (e : Eased t u) where
 
 -- ---- the line
 module _ (from : ℕ → ℕ) (m n : Meaning) (e : EasedLine from m n) where
-  at_eases : (k : ℕ) → k < m.count → Eased (task_at m k) (task_at n (from k))
+  pub at_eases : (k : ℕ) → k < m.count → Eased (task_at m k) (task_at n (from k))
   at_eases k h = rw (cond-true (ltb k m.count) _ _ (lt-ltb _ _ h), cond-true (ltb (from k) n.count) _ _ (lt-ltb _ _ (e.there k h))) (e.task k h)
 
   above_eases : (w k : ℕ) → k < m.count → above m w k ≤ above n w (from k)

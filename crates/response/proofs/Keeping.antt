@@ -45,7 +45,7 @@ bound_mode : (m : Meaning) (p i w : ℕ) → Bound m p i w → Mode m p i
 bound_mode m p i w b = bounded_mode m p i (w, found_bound m p i w b)
 
 -- A place with a mode is a place of the line.
-mode_place : (m : Meaning) (p i : ℕ) → i < modes_in (task_at m p) → p < m.count
+pub mode_place : (m : Meaning) (p i : ℕ) → i < modes_in (task_at m p) → p < m.count
 mode_place m p i h = elim (cases_lt p m.count) [ inl l ↦ l | inr l ↦ let e = ap modes_in (cond-false (ltb p m.count) (m.at p) nowhere (le-ltb _ _ l)) in absurd (omega arith) ]
 
 -- A place with work left is a place of the line.
