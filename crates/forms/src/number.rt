@@ -1,5 +1,5 @@
 //! How a number is read.
-ghost use Rattle.std.specs.Prelude.{◌≡◌, ◌≤◌, IfSome};
+ghost use Rattle.std.specs.Prelude.{◌≡◌, ◌≤◌, [], ◌∷◌, IfSome};
 ghost use Rattle.forms.specs.Numbers.{digits_up_to, plain, number_of};
 
 /// The most digits of a number.
@@ -11,24 +11,28 @@ const LARGEST: u64 = 999_999;
 /// The digit that no number of two digits or more begins with.
 const ZERO: u8 = b'0';
 
+/// A number with one more digit, if the byte is one and the number is then no greater than a limit.
+fn digit_more(limit: u64, number: u64, byte: u8) -> Option<u64>
+    ensures { result ≡ digits_up_to limit number (byte ∷ []) }
+{
+    if !byte.is_ascii_digit() {
+        return None;
+    }
+    let number = number.checked_mul(10)?.checked_add(u64::from(byte - ZERO))?;
+    if number > limit {
+        return None;
+    }
+    Some(number)
+}
+
 /// The number that digits spell, if nothing else stands among them and it is no greater than a limit.
 pub fn digits_up_to(limit: u64, digits: &[u8]) -> Option<u64>
     ensures number { result ≡ digits_up_to limit 0 digits.now }
     ensures within { IfSome result (λ n. n ≤ limit) }
 {
-    let mut number: u64 = 0;
-    for byte in digits {
-        if !byte.is_ascii_digit() {
-            return None;
-        }
-        number = number
-            .checked_mul(10)?
-            .checked_add(u64::from(*byte - ZERO))?;
-        if number > limit {
-            return None;
-        }
-    }
-    Some(number)
+    digits
+        .iter()
+        .try_fold(0, |number, byte| digit_more(limit, number, *byte))
 }
 
 /// Whether `word` has as many bytes as a number, and no needless zero in front.
