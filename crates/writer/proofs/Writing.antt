@@ -1,6 +1,9 @@
 -- What a write leaves, and how long a number is. Assumes nothing.
-use Rattle.std.proofs.Common.{◌≡◌, ℕ, ◌+◌, ◌-◌, ◌/◌, ◌%◌, ◌^◌, ◌<◌, ◌≤◌, List, [], ◌∷◌, ◌++◌, length, get_or, take, drop, set, decimal, sym, refl, ap, ◌∙◌, add_assoc, add-one, arith}
-use Rattle.std.proofs.lemmas.Fmt.{decimal_digit, decimal_step}
+use Rattle.std.proofs.Common.{◌≡◌, Option, Some, None, IfSome, IfNone, MatchOption, ℕ, zero, suc, ◌+◌, ◌-◌, ◌*◌, ◌/◌, ◌%◌, ◌^◌, ◌<◌, ◌≤◌, List, [], ◌∷◌, ◌++◌, length, get_or, take, drop, set, sum_by, decimal, sym, refl, ap, ◌∙◌, add_assoc, add-one, arith}
+use native.Mathlib.Nat.{pow-succ'}
+use Rattle.std.proofs.Math.Nat.{pow-le-pow_right}
+use Rattle.std.proofs.lemmas.Fmt.{decimal_digit, decimal_step, length-decimal-le}
+use Rattle.std.proofs.lemmas.List.Sums.{sum_by-cons}
 use Rattle.std.proofs.lemmas.List.{append_assoc, append-nil, take_more, length-append, length_push, length-take-le, length-drop, take-append-drop, take_at, drop_at, drop-drop, set_split}
 use Rattle.forms.specs.Format.{field, fields}
 use Rattle.writer.specs.Output.{overwrite, Wrote, line_of}
@@ -114,3 +117,29 @@ line_long key ns =
     let a = length-append key (fields ns ++ (10 ∷ [])) in
     let b = length_push (fields ns) 10 in
     omega arith
+
+-- ---- how long the numbers of a line are, summed
+pub fields_sum : (ns : List ℕ) → sum_by (λ n. length (field n)) ns ≡ length (fields ns)
+fields_sum [] = refl
+fields_sum (n ∷ ns) = omega (arith, fields_sum ns, length-append (field n) (fields ns), sum_by-cons (λ m. length (field m)) n ns)
+
+pub fields_short : (ns : List ℕ) → ((i : ℕ) → get_or ns i 0 < 4294967296) → length (fields ns) ≤ 11 * length ns
+fields_short [] small = omega arith
+fields_short (n ∷ ns) small =
+    let h : n < 4294967296 = small 0 in
+    omega (arith, fields_short ns (λ i. small (suc i)), length-append (field n) (fields ns), length-decimal-le 10 n (omega arith) (omega (arith, h)) (omega (arith, h)))
+
+-- A number from 10 ^ k on and below 10 ^ (k + 1) has k + 1 digits.
+pub digits_by_power : (k n : ℕ) → 10 ^ k ≤ n → n < 10 * 10 ^ k → n < 2 ^ 64 → length (decimal n) ≡ k + 1
+digits_by_power zero n low high small = len_one n (omega (arith, high))
+digits_by_power (suc k) n low high small =
+    let p : 10 ^ suc k ≡ 10 * 10 ^ k = pow-succ' 10 k in
+    let one : 1 ≤ 10 ^ k = pow-le-pow_right {n = 10} (omega arith) {i = 0} {j = k} (omega arith) in
+    let more = len_more n (omega (arith, p, low, one)) small in
+    let rest = digits_by_power k (n / 10) (omega (arith, p, low)) (omega (arith, p, high)) (omega (arith, small)) in
+    omega (arith, more, rest)
+
+-- How many digits a number has, by its logarithm.
+pub digits_by_log : (n r : ℕ) (o : Option ℕ) → n < 2 ^ 64 → IfNone o (n ≡ 0) → IfSome o (λ k. 10 ^ k ≤ n) → IfSome o (λ k. n < 10 * 10 ^ k) → MatchOption o (r ≡ 1) (λ k. r ≡ k + 1) → r ≡ length (decimal n)
+digits_by_log n r None small none low high is = omega (arith, is, len_one n (omega (arith, none)))
+digits_by_log n r (Some k) small none low high is = omega (arith, is, digits_by_power k n low high small)

@@ -10,7 +10,8 @@ fn digit_count(n: u32) -> usize
     ensures is { result ≡ length (decimal n) }
     ensures short { result ≤ 10 }
 {
-    if n < 10 { 1 } else { digit_count(n / 10) + 1 }
+    // A cast, since a `usize` is not made from a `u32` by `from`.
+    n.checked_ilog10().map_or(1, |tens| tens as usize + 1)
 }
 
 /// How many bytes a space and `n` take.
@@ -27,11 +28,7 @@ fn fields_len(numbers: &[u32]) -> usize
     ensures is { result ≡ length (fields numbers.now) }
     ensures short { result ≤ 44 }
 {
-    let mut len = 0;
-    for n in numbers {
-        len += field_len(*n);
-    }
-    len
+    numbers.iter().map(|n| field_len(*n)).sum()
 }
 
 /// How many bytes a keyword, its numbers and the end of the line take.
