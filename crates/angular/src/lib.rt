@@ -113,12 +113,8 @@ impl Line for Angular {
         if place == 0 { self.graph.len() } else { 0 }
     }
 
-    // Cost and deadline share the test of the place alone: each is a question of its own.
     fn cost(&self, place: usize, mode: usize) -> u32 {
-        if place != 0 {
-            return 0;
-        }
-        self.graph.mode(mode).map_or(0, |m| m.cost)
+        if place == 0 { self.graph.cost(mode) } else { 0 }
     }
 
     fn deadline(&self, place: usize, mode: usize) -> u32 {
