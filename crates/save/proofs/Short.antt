@@ -1,12 +1,12 @@
 -- A saved text is not too long to be loaded. Assumes nothing.
-use Rattle.std.proofs.Common.{◌≡◌, ℕ, suc, ◌+◌, ◌*◌, ◌/◌, ◌%◌, ◌<◌, ◌≤◌, true, cond, not, ◌&&◌, List, [], ◌∷◌, ◌++◌, map, length, is_some, is_ok, Some, None, Option, arith}
+use Rattle.std.proofs.Common.{◌≡◌, ℕ, zero, suc, ◌+◌, ◌*◌, ◌/◌, ◌%◌, ◌<◌, ◌≤◌, Bool, true, false, cond, not, ◌&&◌, List, [], ◌∷◌, ◌++◌, map, length, get_or, is_some, is_ok, Some, None, Option, arith}
 use Rattle.std.proofs.lemmas.Fmt.{length-decimal-le}
 use Rattle.std.proofs.lemmas.List.{length-append}
 use Rattle.std.proofs.lemmas.Bool.{and_parts}
 use Rattle.modes.specs.Plans.{RightModes}
 use Rattle.modes.specs.declared.graph.Mode.{Mode}
 use Rattle.table.specs.Numbers.{task_numbers}
-use Rattle.table.specs.Items.{Item, Make, sporadic, angular, is_angular, angulars, place_of, apart}
+use Rattle.table.specs.Items.{Item, Make, blank, sporadic, angular, is_angular, angulars, place_of, apart}
 use Rattle.forms.specs.declared.form.Form.TheVariants as form
 use Rattle.forms.specs.Format.{field, spell, Sound}
 use Rattle.save.specs.Texts.{mode_form, links_from, make_forms, item_forms, forms_of, spelled, last_place, trailer_of, text_of}
@@ -76,6 +76,10 @@ make_short n (angular p) h r =
     let both = spelled_long (map mode_form p.modes) (links_from 0 p.gaps) in
     omega (arith, r.few, r.square, length-append (spell (form.Angular n)) (spelled (map mode_form p.modes ++ links_from 0 p.gaps)))
 
+crank_one : (b : Bool) → cond b 1 0 ≤ 1
+crank_one true = omega arith
+crank_one false = omega arith
+
 items_short : (is : List Item) → apart is ≡ true → Rights is → length (spelled (forms_of is)) ≤ 37 * length is + 6938 * angulars is
 items_short [] a r = omega arith
 items_short (i ∷ is) a r =
@@ -85,6 +89,20 @@ items_short (i ∷ is) a r =
     let one = make_short i.number i.make n.1 r.0 in
     let later = items_short is q.1 r.1 in
     omega (arith, spelled_long (item_forms i) (forms_of is))
+
+item_short : (is : List Item) (k : ℕ) → k < length is → apart is ≡ true → Rights is → length (spelled (item_forms (get_or is k blank))) ≤ 6975
+item_short [] k h a r = absurd (omega arith)
+item_short (i ∷ is) zero h a r =
+    let p = and_parts (is_ok (task_numbers i.number 0)) (not (is_some (place_of i.number is)) && apart is) a in
+    omega (arith, make_short i.number i.make (number_limits i.number p.0).1 r.0, crank_one (is_angular i.make))
+item_short (i ∷ is) (suc k) h a r =
+    let p = and_parts (is_ok (task_numbers i.number 0)) (not (is_some (place_of i.number is)) && apart is) a in
+    let q = and_parts (not (is_some (place_of i.number is))) (apart is) p.1 in
+    item_short is k (omega (arith, h)) q.1 r.1
+
+-- The lines of one task.
+pub task_short : (is : List Item) (k : ℕ) → k < length is → Together is → Rights is → length (spelled (item_forms (get_or is k blank))) ≤ 6975
+task_short is k h t r = item_short is k h t.distinct r
 
 pub lines_short : (is : List Item) → Together is → Rights is → length (spelled (forms_of is)) ≤ 56096
 lines_short is t r = omega (arith, t.few, t.crank, items_short is t.distinct r)

@@ -1,6 +1,8 @@
 -- The lines in a task's slots are the task's lines. Assumes nothing.
 use Rattle.std.proofs.Common.{◌≡◌, ℕ, zero, suc, ◌+◌, ◌-◌, ◌*◌, ◌/◌, ◌%◌, ◌<◌, ◌≤◌, Bool, true, false, cond, eqb, ltb, List, [], ◌∷◌, ◌++◌, map, length, get_or, take, Some, None, Option, sym, refl, ap, ◌∙◌, ⊎_elim, zero-add, add-one, arith}
+use Rattle.std.specs.List.{cons_option, filter_map, range_with_len}
 use Rattle.std.specs.Option.{option_map, option_to_list}
+use Rattle.std.proofs.lemmas.List.Elements.{filter_map-append}
 use Rattle.std.proofs.lemmas.List.{append_assoc, append-nil, map-append, take_more, take_all, length-take-le}
 use Rattle.std.proofs.lemmas.Bool.{cond-true, cond-false, lt-ltb, le-ltb, eq-eqb, ne_eqb, cases_lt}
 use Rattle.line.specs.Meaning.{Task, task_at, gap_in}
@@ -30,6 +32,23 @@ slots_suc f n = refl
 
 pub slots_more : (f : ℕ → Option Form) (n : ℕ) (o : Option Form) → f n ≡ o → slots_to f (n + 1) ≡ slots_to f n ++ option_to_list o
 slots_more f n o e = ap (slots_to f) (add-one n) ∙ slots_suc f n ∙ ap (λ (x : Option Form). slots_to f n ++ option_to_list x) e
+
+counted_on : (a n j : ℕ) → j ≡ a + n → range_with_len a (suc n) ≡ range_with_len a n ++ j ∷ []
+counted_on a zero j e = let same : a ≡ j = omega arith in ap (λ k. k ∷ []) same
+counted_on a (suc n) j e = ap (λ l. a ∷ l) (counted_on (a + 1) n j (omega arith))
+
+one_slot : (o : Option Form) → cons_option o [] ≡ option_to_list o
+one_slot None = refl
+one_slot (Some g) = refl
+
+-- The slots gone through by number, without the empty ones.
+pub slots_listed : (f : ℕ → Option Form) (n : ℕ) → filter_map f (range_with_len 0 n) ≡ slots_to f n
+unfolding slots_to
+slots_listed f zero = refl
+slots_listed f (suc n) =
+    ap (filter_map f) (counted_on 0 n n (sym (zero-add n)))
+    ∙ filter_map-append f (range_with_len 0 n) (n ∷ [])
+    ∙ (λ i. slots_listed f n i ++ one_slot (f n) i)
 
 -- ---- a sporadic task
 module _ (number cost period deadline : ℕ) where

@@ -1,5 +1,5 @@
 -- The spellings of lines one after another. Assumes nothing.
-use Rattle.std.proofs.Common.{◌≡◌, ℕ, zero, suc, ◌+◌, ◌-◌, ◌<◌, ◌≤◌, List, [], ◌∷◌, ◌++◌, length, get_or, take, drop, Some, None, Ok, Err, Option, Result, sym, refl, ap, ◌∙◌, subst, arith}
+use Rattle.std.proofs.Common.{◌≡◌, ℕ, zero, suc, ◌+◌, ◌-◌, ◌<◌, ◌≤◌, List, [], ◌∷◌, ◌++◌, length, get_or, take, drop, Some, None, Ok, Err, Option, Result, sum_by, sym, refl, ap, ◌∙◌, subst, arith}
 use Rattle.std.proofs.lemmas.List.{append_assoc, append-nil, length-append, take_more, take-append-drop}
 use Rattle.table.specs.Items.{Item, blank}
 use Rattle.forms.specs.declared.form.Form.{Form}
@@ -8,10 +8,14 @@ use Rattle.writer.specs.Output.{overwrite, Wrote, WriteDone}
 use Rattle.writer.proofs.Writing.{wrote_more, wrote_length}
 use Rattle.save.specs.Saves.{SaveDone, room_answer}
 use Rattle.std.specs.Option.{option_to_list, ok_or}
+use Rattle.std.proofs.lemmas.List.Sums.{sum_by-cons}
 use Rattle.std.proofs.lemmas.Bool.Decides.{nat_tests}
 use Rattle.line.specs.declared.refusal.Refusal.{Refusal}
 use Rattle.line.specs.declared.refusal.Refusal.TheVariants.{TooShort}
-use Rattle.save.proofs.Slots.{slots_to, slots_more}
+use Rattle.std.specs.List.{filter_map, range_with_len}
+use Rattle.save.specs.Slots.{slot_of}
+use Rattle.save.proofs.Rights.{Rights}
+use Rattle.save.proofs.Slots.{slots_to, slots_more, slots_all, slots_listed}
 use Rattle.save.specs.Texts.{item_forms, forms_of, spelled, last_place, trailer_of, text_of}
 
 pub spelled_append : (xs ys : List Form) → spelled (xs ++ ys) ≡ spelled xs ++ spelled ys
@@ -20,6 +24,11 @@ spelled_append (x ∷ xs) ys = ap (λ l. spell x ++ l) (spelled_append xs ys) �
 
 pub spelled_long : (xs ys : List Form) → length (spelled (xs ++ ys)) ≡ length (spelled xs) + length (spelled ys)
 spelled_long xs ys = ap length (spelled_append xs ys) ∙ length-append (spelled xs) (spelled ys)
+
+-- What lines take, summed.
+pub spelled_sum : (fs : List Form) → sum_by (λ f. length (spell f)) fs ≡ length (spelled fs)
+spelled_sum [] = refl
+spelled_sum (f ∷ fs) = omega (arith, spelled_sum fs, length-append (spell f) (spelled fs), sum_by-cons (λ g. length (spell g)) f fs)
 
 forms_append : (xs ys : List Item) → forms_of (xs ++ ys) ≡ forms_of xs ++ forms_of ys
 forms_append [] ys = refl
@@ -103,6 +112,13 @@ slot_wrote f n g xs mid now at p q e a b = subst (λ (l : List ℕ). Wrote xs at
 
 pub slot_passed : (f : ℕ → Option Form) (n : ℕ) (xs now : List ℕ) (at q : ℕ) → None ≡ f n → Wrote xs at (spelled (slots_to f n)) now q → Wrote xs at (spelled (slots_to f (n + 1))) now q
 slot_passed f n xs now at q e a = subst (λ (l : List ℕ). Wrote xs at l now q) (sym (slot_empty f n e)) a
+
+-- What the lines in all slots of a task take, summed.
+pub lines_listed : (is : List Item) (place : ℕ) → place < length is → Rights is
+    → sum_by (λ f. length (spell f)) (filter_map (slot_of is place) (range_with_len 0 273)) ≡ length (spelled (item_forms (get_or is place blank)))
+lines_listed is place h r =
+    let f = slot_of is place in
+    spelled_sum (filter_map f (range_with_len 0 273)) ∙ ap (λ l. length (spelled l)) (slots_listed f 273 ∙ slots_all is place h r)
 
 -- ---- the whole text
 -- The tasks' lines were written at the front, and the trailer after them.

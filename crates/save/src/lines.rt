@@ -16,7 +16,8 @@ use table::table::Table;
 /// A task has a slot for its first line, one for each of 16 modes, and one for each pair of modes.
 pub(crate) const SLOTS: usize = 273;
 
-// A table and a place in it go together from here on: a struct of the two would be taken apart for each question.
+// A table and a place in it, and no struct of the two: the table is asked without a place too, by `measure` and for the
+// trailer.
 
 /// The first line of the task at a place.
 fn first_line(table: &Table, place: usize) -> Form
@@ -26,6 +27,7 @@ fn first_line(table: &Table, place: usize) -> Form
     if table.is_angular_at(place) {
         return Form::Angular { number };
     }
+    // There is always a gap: the mode of a sporadic task follows itself after its period.
     Form::Sporadic {
         number,
         cost: table.cost(place, 0),

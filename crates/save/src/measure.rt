@@ -23,14 +23,11 @@ fn task_len(table: &Table, place: usize) -> usize
     ensures is { result ≡ length (spelled (item_forms (slice_index_or (items table.now) place blank))) }
     ensures short { result ≤ 14469 }
 {
-    // As `write_task` goes over the lines: this one counts where that one writes, and both ask `line_at`.
-    let mut len = 0;
-    for slot in 0..SLOTS {
-        if let Some(form) = line_at(table, place, slot) {
-            len += form_len(form);
-        }
-    }
-    len
+    // Of the lines that `write_task` writes: this counts where that writes, and both ask `line_at`.
+    (0..SLOTS)
+        .filter_map(|slot| line_at(table, place, slot))
+        .map(|form| form_len(form))
+        .sum()
 }
 
 /// What the lines of the tasks take.
@@ -38,6 +35,8 @@ pub(crate) fn measure(table: &Table) -> Extent
     ensures len { result.len ≡ length (spelled (forms_of (items table.now))) }
     ensures last { result.last ≡ last_place (items table.now) }
 {
+    // A loop and no `fold`: its sum stays within a bound that rises from task to task, so a turn would be a function with a
+    // contract of its own.
     let mut len = 0;
     let mut last = 0;
     for place in 0..table.len() {

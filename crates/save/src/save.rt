@@ -12,6 +12,8 @@ use line::refusal::Refusal;
 use table::table::Table;
 use writer::lengths::form_len;
 
+// Apart, as each lent length is compared where it is known: this one with the length of a text that was measured.
+
 /// Refuses an output of `room` bytes where `len` bytes are to be written.
 fn check_room(len: usize, room: usize) -> Result<(), Refusal>
     ensures { result ≡ room_answer len room }

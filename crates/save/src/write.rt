@@ -11,6 +11,9 @@ use forms::form::Form;
 use table::table::Table;
 use writer::writes::write_form;
 
+// The output is lent, and the place goes beside it, as in `writer`. By slot and by place in loops: tried as a `fold`,
+// whose closure writes into the output, what the output holds after it was not proved.
+
 /// Writes a line, for which there is room, from `at` on, and answers the place after it.
 pub(crate) fn write_line(out: &mut [u8], at: usize, form: Form) -> usize
     requires { at + length (spell form) ≤ length out.old }
