@@ -10,7 +10,7 @@ use line::limits::WINDOWS;
 use modes::graph::ModeGraph;
 
 // A window is a plain number with its bound in each contract: it is taken off from and counted with at every step.
-// The cells are one list, and not a row for each mode, because they are the caller's, any that are long enough.
+// The cells are one list, in which docs/MODEL.md fixes cell m × 1,001 + w; they are the caller's, any that are long enough.
 
 /// A work sheet, with the graph whose modes its cells are of.
 #[derive(Clone, Copy)]
@@ -36,6 +36,7 @@ impl<'a> Sheet<'a> {
     pub(crate) fn left(&self, m: usize, w: usize, b: usize) -> Option<usize>
         ensures { result ≡ left (gap_at (plan self.now.graph.now) m b) w }
     {
+        // A cast, since a `usize` is not made from a `u32` by `from`.
         let gap = self.graph.gap(m, b)? as usize;
         w.checked_sub(gap).filter(|left| *left > 0)
     }
@@ -58,6 +59,7 @@ impl<'a> Sheet<'a> {
         requires window { w ≤ 1000 }
         ensures { result ≡ next (graph_of (plan self.now.graph.now)) (cell_at self.now.cells.now) m w }
     {
+        // There is always one: the mode that is left.
         (0..self.graph.len())
             .map(|b| self.offered(m, w, b))
             .max()

@@ -33,7 +33,8 @@ impl<'a> FilledSheet<'a> {
     }
 
     /// The first mode whose cell of a window is the greatest.
-    // Of equal keys the last one is taken, so the modes are gone through from the last one down.
+    // Of equal keys the last one is taken, so the modes are gone through from the last one down. There is always one: the
+    // graph has a mode.
     fn start(&self, w: usize) -> usize
         requires { w ≤ 1000 }
         ensures mode { result < length (plan self.now.sheet.graph.now).modes }
@@ -56,7 +57,8 @@ impl<'a> FilledSheet<'a> {
     }
 
     /// The first mode that offers the most after `m` with `w` left.
-    // Found as in `start`; one function of a key would have to say for each key where it may be asked.
+    // Found as in `start`, in a graph that has a mode; one function of a key would have to say for each key where it may be
+    // asked.
     fn pick(&self, m: usize, w: usize) -> usize
         requires { w ≤ 1000 }
         ensures mode { result < length (plan self.now.sheet.graph.now).modes }

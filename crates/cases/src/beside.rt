@@ -22,6 +22,7 @@ pub fn judge_with(table: Table, own: Guarded, cells: &mut [u32]) -> Result<Verdi
     ensures cells { cells.new ≡ beside_cells (guarded_line own) (line_of (items table)) cells.old }
     ensures judged { IfOk result (λ v. Judged (joined (guarded_line own) (line_of (items table))) v cells.new) }
 {
+    // Compared here too: too few cells are refused before a table of 16 tasks is.
     if cells.len() < CELLS {
         return Err(Refusal::TooShort);
     }

@@ -29,6 +29,8 @@ impl Guarded {
         Ok(Guarded { task })
     }
 
+    // A window is a plain number with its bound: it is divided here and nothing more.
+
     /// The work that it counts with in a window.
     fn counted(&self, window: u32) -> u32
         requires { window ≤ 1000 }

@@ -57,6 +57,7 @@ pub struct LineFault {
 
 /// A refusal of load: its layer, the line, counted from 1, and the byte place of that line. Line and
 /// place are 0 where load refuses before it reads a line.
+// 0 and not an Option: both are printed, and docs/TEXT.md fixes line 0, place 0.
 #[derive(Clone, Copy)]
 pub struct LoadFault {
     pub refusal: Refusal,

@@ -29,7 +29,7 @@ impl Keyword {
     }
 }
 
-// By a pattern for each word, and not by a search among the words: the first word tells the form at one look.
+// A second table and no search: a search needs a list of all keywords, a third table, and is no plainer.
 
 /// The keyword that a word spells, if it spells one.
 impl<'a> TryFrom<&'a [u8]> for Keyword {

@@ -94,6 +94,7 @@ fn may_widen(stands: Option<u32>, gap: u32) -> Result<(), Refusal>
 }
 
 /// Whether a link that stands may be struck out, given whether another one leaves its mode.
+// `other` is yes or no, with nothing beside it.
 fn may_cut(stands: Option<u32>, other: bool) -> Result<(), Refusal>
     ensures { result ≡ cut_answer stands other }
 {

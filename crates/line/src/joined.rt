@@ -54,7 +54,8 @@ impl<Top: Line, Low: Line> Joined<Top, Low> {
     }
 }
 
-// A match in each question: each asks a part for something else, and a part could be handed out only as a `dyn`.
+// A match in each question: each asks a part for something else, and a part could be handed out only as a `dyn`. Past
+// both lines the answer is 0 and no Option, as every line has it (docs/MODEL.md).
 
 impl<Top: Line, Low: Line> Line for Joined<Top, Low> {
     ghost meaning = { (joined_ghosts Top.Line Low.Line).meaning };
@@ -121,6 +122,7 @@ pub fn may_show(
     if place >= PLACES || window > WINDOW {
         return Err(Refusal::OutOfRange);
     }
+    // Both lengths in one test, since they are one refusal.
     if sheet < SHEET || list < LIST {
         return Err(Refusal::TooShort);
     }

@@ -24,6 +24,7 @@ pub mod refusal;
 ///
 /// Every question may be asked with any number, and changes nothing: in its range it answers from
 /// the meaning, outside it 0, and for a gap none.
+// 0 and not an Option, since whoever sums or compares then needs no case for what is not there (docs/MODEL.md).
 pub trait Line {
     /// What the line means: the numbers that its questions answer from.
     ghost meaning: { Self → Meaning };
@@ -65,6 +66,8 @@ pub trait ExactLine: Line {
 
     /// Writes a walk of the task at a place that fits the window and whose work is `most`, and
     /// answers its length; later cells of the list stay.
+    // Sheet and list are lent, any that are long enough: a struct of the two would have to say that they are still the
+    // caller's.
     fn show(
         &self,
         place: usize,

@@ -25,6 +25,8 @@ pub const SHEET: usize = 16016;
 /// The mode numbers that a walk's list has room for.
 pub const LIST: usize = 1000;
 
+// Not one function for all lent memory: it would take two lengths of one type, and here it shows which has to reach which.
+
 /// Refuses a work sheet of too few cells.
 pub fn check_sheet(cells: usize) -> Result<(), Refusal>
     ensures { result ≡ sheet_answer cells }

@@ -59,6 +59,7 @@ impl Refusal {
     pub fn number(self) -> u8
         ensures { result ≡ number_of self }
     {
+        // A cast: it gives the number written at the variant.
         self as u8
     }
 }

@@ -22,7 +22,7 @@ const END: usize = 15;
 
 // `Kept` says of a line that neither fills a sheet nor could, and `Carries` of one that may close a task, what it leaves:
 // results, each of its own kind of line, which no struct could hold. Numbers of a line are widened by `as` where the
-// editor takes a mode, since a `usize` is not made from a `u32` by `from`.
+// editor takes a mode and where the trailer is compared, since a `usize` is not made from a `u32` by `from`.
 
 impl Loader {
     /// Nothing has been read.
@@ -114,6 +114,8 @@ impl Loader {
         }
         Ok(())
     }
+
+    // Each closes the task above first: a function around them would take each as a closure to save a line.
 
     /// A line that begins a sporadic task.
     fn sporadic(

@@ -26,6 +26,7 @@ impl Mode {
 
 /// Up to 16 modes, and for each two of them, in order, the least gap after which the second may
 /// follow the first, if it may.
+// All rows of gaps stand from the start, and modes are added: the two differ in length.
 #[derive(Drop)]
 pub struct ModeGraph {
     modes: Vec<Mode>,
@@ -37,6 +38,8 @@ pub struct ModeGraph {
     ghost limits: { RightModes modes.items },
     ghost links: { RightGaps modes.items (cells gaps.items) },
 }
+
+// Numbers of a mode or link come unchecked, as the calls hand them on; `Mode` and the graph have them checked.
 
 /// Whether the numbers are those of a mode.
 pub fn check_mode(cost: u32, deadline: u32) -> Result<(), Refusal>

@@ -5,8 +5,8 @@ ghost use Rattle.response.specs.Rows.{cleared_to};
 use crate::CELLS;
 use line::limits::MODES;
 
-// The cells are the caller's, any that are long enough, and their length is asked for: a struct that held them would
-// have to say in each contract that they are still the caller's.
+// The cells are one list, in which docs/MODEL.md fixes cell place × 16 + mode. They are the caller's, any that are long
+// enough, and their length is asked for: a struct that held them would have to say that they are still the caller's.
 
 /// Sets the cells that show bounds to 0.
 pub fn clear(cells: &mut [u32])
@@ -21,6 +21,5 @@ pub fn show(cells: &mut [u32], place: usize, mode: usize, window: u32)
     requires { place * 16 + mode < length cells.old }
     ensures { cells.new ≡ slice_set cells.old (place * 16 + mode) window }
 {
-    // The cells are one list, and not a row for each place, because they are lent.
     cells[place * MODES + mode] = window;
 }

@@ -71,6 +71,7 @@ pub fn judge<L: Line>(line: &L, cells: &mut [u32]) -> Result<Verdict<usize>, Ref
     ensures eases { OnOk result (EasesBelow (L.meaning line.now)) }
     ensures judged { IfOk result (λ v. Judged (L.meaning line.now) v cells.new) }
 {
+    // Compared here, as each lent length where it is known (`line::limits`).
     if cells.len() < CELLS {
         return Err(Refusal::TooShort);
     }

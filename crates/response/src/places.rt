@@ -19,6 +19,7 @@ fn judge_place<L: Line>(row: &Row<L>, cells: &mut [u32]) -> Option<usize>
     ensures shows { Shows (L.meaning row.now.line.now) (row.now.place * 16) (row.now.place * 16 + reached (L.meaning row.now.line.now) row.now.place) cells.old cells.new }
 {
     let modes = row.line.modes(row.place);
+    // A loop and no `find`: it also shows each bound.
     for mode in 0..modes {
         match row.bound(mode) {
             Some(window) => show(cells, row.place, mode, window),

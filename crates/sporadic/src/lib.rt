@@ -107,6 +107,8 @@ impl Sporadic {
         }
     }
 
+    // A window is a plain number with its bound: it is divided here and nothing more.
+
     /// How many releases, one period apart, a window can hold.
     fn releases(&self, window: u32) -> u32
         requires { window ≤ 1000 }
@@ -139,7 +141,8 @@ impl Line for Sporadic {
         if place == 0 { 1 } else { 0 }
     }
 
-    // Cost and deadline share the test of place and mode alone: each is a question of its own.
+    // Cost and deadline share one test: a question before them could only hand out the task itself, or none, to be taken
+    // apart at once.
     fn cost(&self, place: usize, mode: usize) -> u32 {
         if place == 0 && mode == 0 {
             self.cost

@@ -24,6 +24,8 @@ impl Make {
         }
     }
 
+    // By a pattern of its own, and not by a `Kind` that is made to be compared.
+
     /// Whether the task is angular.
     pub fn is_angular(&self) -> bool
         ensures { result ≡ is_angular (make_of self.now) }

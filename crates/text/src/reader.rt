@@ -6,6 +6,7 @@ mod places;
 mod words;
 
 /// Reads a text from its front: `pos` is the byte to read next, on the line `line`, counted from 1.
+// The place and not the rest alone: a fault tells the byte place.
 #[derive(Clone, Copy)]
 pub struct Reader<'a> {
     text: &'a [u8],

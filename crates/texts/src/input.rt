@@ -14,6 +14,8 @@ fn number_of(digits: &[u8]) -> Option<usize>
     digits_up_to(u64::MAX, digits).map(|number| number as usize)
 }
 
+// A small search of its own, as the lists of calls have theirs for each byte: what they share is std's `position`.
+
 /// The place of the first line feed.
 fn line_end(bytes: &[u8]) -> Option<usize>
     ensures { result ≡ position (λ byte. byte == 10) bytes.now }

@@ -32,6 +32,7 @@ impl Editor {
         ensures { ChangingDone (desk self.old) number change sheet.old result (desk self.new) sheet.new }
     {
         check_task(number, 0)?;
+        // Checked here for the order of the refusals; `table` takes any change, and checks it for its own callers.
         change.check()?;
         check_sheet(sheet.len())?;
         let place = self.find(number)?;

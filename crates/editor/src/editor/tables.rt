@@ -56,6 +56,7 @@ impl Editor {
         Ok(())
     }
 
+    // The numbers come unchecked, as the calls hand them on; `Sporadic` is the struct that has them checked.
     fn may_put(
         &self,
         number: u32,
