@@ -11,6 +11,7 @@ use Rattle.line.specs.Lighter.{Eased}
 use Rattle.line.specs.Meaning.{Meaning, Task, task_at, modes_in}
 use Rattle.table.specs.Numbers.{task_numbers}
 use Rattle.table.specs.Easing.{EasedTable}
+use Rattle.table.proofs.Easing.{eased_same}
 use Rattle.table.specs.Items.{Item, line_of, place_of, number_at, apart}
 use Rattle.response.specs.declared.Verdict.TheVariants.{Fits}
 use Rattle.response.specs.Verdicts.{verdict_of, bound_cells}
@@ -53,17 +54,11 @@ eased_on t u v e f = record {
   most = λ w h. let x = e.most w h in let y = f.most w h in omega arith;
 }
 
-eased_self : (t : Task) → Eased t t
-eased_self t = record {
-  graph = record { lighter = record { same = refl; cheaper = λ m. omega arith; rarer = λ a b h e. (h, e, omega arith) }; due = λ m. refl };
-  most = λ w h. omega arith;
-}
-
 table_self : (is : List Item) → EasedTable is is
 table_self is = record {
   from = λ k. k;
   numbers = λ k h. refl;
-  line = record { there = λ k h. h; order = λ j k l h. l; task = λ k h. eased_self ((line_of is).at k) };
+  line = record { there = λ k h. h; order = λ j k l h. l; task = λ k h. eased_same ((line_of is).at k) };
 }
 
 table_on : (a b c : List Item) → EasedTable a b → EasedTable b c → EasedTable a c

@@ -8,6 +8,7 @@ ghost use Rattle.report.specs.Words.{fault_text, bound_shown, task_text, tasks_t
 
 use bench::bench::Bench;
 use faults::LoadFault;
+use history::new_bench;
 use line::Line;
 use line::limits::SHEET;
 use line::refusal::Refusal;
@@ -74,7 +75,7 @@ fn refused(heap: Global, fault: LoadFault) -> Result<String, Refusal>
 pub fn report(heap: Global, text: &[u8]) -> Result<String, Refusal>
     ensures { ReportDone text.now result }
 {
-    let mut bench = Bench::new(BENCH, heap)?;
+    let mut bench = new_bench(BENCH, heap)?;
     let mut sheet = vec![in heap; 0; SHEET]?;
     match load(&mut bench, text, &mut sheet) {
         Ok(()) => Ok(judged(heap, &mut bench)?),

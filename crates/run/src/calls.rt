@@ -68,6 +68,7 @@ impl Play {
     }
 
     /// The longest time that a job of a place and mode took; 0 before one has finished.
+    // 0 and not an Option: docs/RUN.md says so, and no job takes 0 ticks.
     pub fn worst<L: Line>(&self, line: &L, place: usize, mode: usize) -> Result<u32, Refusal>
         ensures { result ≡ worst_answer (L.meaning line.now) (course self.now) place mode }
     {

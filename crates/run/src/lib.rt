@@ -52,6 +52,7 @@ pub struct Advance<Task> {
 pub struct Play {
     clock: u32,
     jobs: [Option<Job>; PLACES],
+    // Beside the jobs and not in them: a place's job is replaced, and its longest times stay.
     worst: [[u32; MODES]; PLACES],
     late: Option<Late<usize>>,
     ghost rows: { AllRows worst },

@@ -14,7 +14,8 @@ use Rattle.table.specs.Easing.{EasedTable}
 use Rattle.table.specs.Items.{Item, Make, sporadic, angular, blank, task_of, line_of, number_at, changed_make, changed_at, past}
 use Rattle.table.proofs.Changing.{change_there}
 
-eased_same : (t : Task) → Eased t t
+-- A task asks for no more than itself.
+pub eased_same : (t : Task) → Eased t t
 eased_same t = record {
   graph = record { lighter = record { same = refl; cheaper = λ m. omega arith; rarer = λ a b h e. (h, e, omega arith) }; due = λ m. refl };
   most = λ w h. omega arith;
