@@ -1,6 +1,6 @@
 -- Worked examples: tables as plain values, and what the definitions that the contracts name give of them.
 -- Assumes nothing.
-use Rattle.std.specs.Prelude.{◌≡◌, ℕ, List, [], ◌∷◌, ◌++◌, map, replicate, Some, None, Option}
+use Rattle.std.specs.Prelude.{◌≡◌, ℕ, List, [], ◌∷◌, ◌++◌, map, replicate, Some, None, Ok, Err, Option, Result}
 use Rattle.std.specs.Option.{unwrap_or}
 use Rattle.line.specs.Meaning.{Task, task_at, most_in}
 use Rattle.line.specs.Joins.{joined}
@@ -13,6 +13,11 @@ use Rattle.sporadic.specs.Tasks.{sporadic_task}
 use Rattle.modes.specs.Plans.{Plan, empty_plan, with_mode, with_gap}
 use Rattle.table.specs.Items.{Item, sporadic, angular, line_of, place_of}
 use Rattle.bench.specs.State.{on_numbers}
+use Rattle.line.specs.declared.refusal.Refusal.{Refusal}
+use Rattle.line.specs.declared.refusal.Refusal.TheVariants.{NotYet}
+use Rattle.run.specs.declared.Late.{Late}
+use Rattle.run.specs.Course.{Course, fresh, worst_at}
+use Rattle.run.specs.Calls.{release, advance, release_answer, after_calls}
 use Rattle.cases.specs.Guards.{guarded_task}
 
 -- ---- The tables
@@ -80,9 +85,26 @@ bench_verdict is = on_numbers is (verdict_by is)
 abbrev pub below_of : Task → Option ℕ
 below_of t = bound_of (joined (sole t) (line_of (clock 7 2 10 10 ∷ []))) 1 0
 
+-- The worked run: at clock 0 tasks 7, 20 in its mode 1, and 30 are released, each in full; at 10 task 7 again, and at 12
+-- task 20 in mode 1 again.
+abbrev pub worked_run : List Item → Course
+worked_run is = after_calls (line_of is) (release 0 0 2 ∷ release 1 1 3 ∷ release 2 0 6 ∷ advance 10 ∷ release 0 0 2 ∷ advance 2 ∷ release 1 1 3 ∷ advance 8 ∷ []) fresh
+
+-- The longest time of a task and mode in it.
+abbrev pub took_by : List Item → ℕ → ℕ → ℕ
+took_by is number mode = worst_at (worked_run is).worst (place_by is number) mode
+
+-- What task 20 in mode 1 is answered a number of ticks after its release in that mode.
+abbrev pub again_after : ℕ → Result (Unit {0}) Refusal
+again_after ticks = release_answer (line_of table_e) (after_calls (line_of table_e) (release 1 1 3 ∷ advance ticks ∷ []) fresh) 1 1 3
+
 -- ---- The examples
--- What an example is about: work in ticks, bounds where there are any, bounds as shown, or a verdict.
+-- What an example is about: work in ticks, bounds where there are any, bounds as shown, a verdict, times that jobs took,
+-- the clock and the late place and mode of a run, or what releases are answered.
 pub data Value : Type 0 where
+  times : List ℕ → Value
+  ended : ℕ → Option (Late ℕ) → Value
+  answers : List (Result (Unit {0}) Refusal) → Value
   work : List ℕ → Value
   bounds : List (Option ℕ) → Value
   shown : List ℕ → Value
@@ -145,8 +167,25 @@ fits_empty = gives (bench (bench_verdict [])) (bench Fits)
 abbrev pub below_other : Example
 below_other = gives (bounds (below_of (sporadic_task 4 6 6) ∷ below_of (guarded_task 4 6 6) ∷ [])) (bounds (Some 6 ∷ Some 10 ∷ []))
 
+-- In the worked run of table E task 30 takes 16 ticks, task 7 takes 2, and task 20 in mode 1 takes 5; the run ends at clock
+-- 20, and no job is late.
+abbrev pub takes16 : Example
+takes16 = gives (times (took_by table_e 30 0 ∷ took_by table_e 7 0 ∷ took_by table_e 20 1 ∷ [])) (times (16 ∷ 2 ∷ 5 ∷ []))
+
+abbrev pub on_time : Example
+on_time = gives (ended (worked_run table_e).clock (worked_run table_e).late) (ended 20 None)
+
+-- With deadline 15 of task 30, which is at place 2, that run is late at clock 15.
+abbrev pub late_at15 : Example
+late_at15 = gives (ended (worked_run (table_to 15)).clock (worked_run (table_to 15)).late) (ended 15 (Some (record { task = 2; mode = 0 })))
+
+-- Task 20 in mode 1 again after 11 ticks is too early; after 12 it is accepted.
+abbrev pub too_early : Example
+too_early = gives (answers (again_after 11 ∷ again_after 12 ∷ [])) (answers (Err NotYet ∷ Ok tt ∷ []))
+
 abbrev pub examples : List Example
 examples =
+    takes16 ∷ on_time ∷ late_at15 ∷ too_early ∷
     work_of20 ∷ work_of7 ∷ bounds_of_e ∷ fits_e ∷ fits18 ∷ over17 ∷ over_at30 ∷ shown17 ∷ cells_of_e ∷ work_of_sixteen ∷ bounds_of_sixteen ∷ fits_empty ∷ below_other ∷ []
 
 -- In every example the definitions give what is wanted.
