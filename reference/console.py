@@ -1,6 +1,6 @@
 """Answers a list of calls as the console does, by the model alone: python3 reference/console.py < LIST
 
-docs/CALLS.md has the calls; crates/console/src/main.rt says how they are written.
+docs/CALLS.md has the calls, docs/CONSOLE.md how they are written.
 """
 import sys
 
@@ -26,8 +26,8 @@ def digest(cells):
 
 
 def numbers_of(words):
-    """The numbers of 32 bits that the words spell, or None."""
-    if any(not word.isdigit() or len(word) > 20 or int(word) > 4294967295 for word in words):
+    """The numbers of 32 bits that the words spell in one to ten digits, or None."""
+    if any(not word.isdigit() or len(word) > 10 or int(word) > 4294967295 for word in words):
         return None
     return [int(word) for word in words]
 
@@ -35,19 +35,24 @@ def numbers_of(words):
 # How many numbers each call has.
 ARITY = {
     "bench": 1, "keep": 1, "put": 5, "take": 1, "lower": 3, "widen": 4, "cut": 3, "open": 2, "mode": 2, "link": 3,
-    "close": 0, "abandon": 0, "save": 0, "judge": 0, "verdict": 0, "bound": 2, "most": 2, "show": 2,
+    "close": 0, "abandon": 0, "save": 0, "judge": 0, "verdict": 0, "bound": 2, "most": 2, "show": 2, "walk": 2,
+    "begin": 0, "release": 3, "advance": 1, "worst": 2, "stop": 0,
     "sheet": 0, "output": 0, "whole": 0,
 }
 
 
 class Console:
     def __init__(self):
-        self.desk = model.Bench(0)
+        self.desk = model.Bench(1)
         self.ticket = None
+        self.running = None
         self.whole()
 
     def answer(self, line, text=None):
-        """The answer to a call, with its line feed. A load brings its text."""
+        """The answer to a call, with its line feed, and nothing to a line that is passed over. A load
+        brings its text."""
+        if line == b"" or line.startswith(b"#"):
+            return ""
         words = line.split(b" ")
         name = words[0].decode("latin-1")
         if name == "load" and text is not None:
@@ -73,10 +78,10 @@ class Console:
             return "refused %s\n" % fault.words
         return "ok\n"
 
-    # The bench, and the ticket in hand
+    # The bench, and the tickets in hand
 
     def bench(self, number):
-        self.ticket = None
+        self.ticket = self.running = None
         self.desk = model.Bench(number)
 
     def keep(self, number):
@@ -105,6 +110,32 @@ class Console:
             return "no draft"
         self.desk.abandon(self.ticket)
         self.ticket = None
+
+    # Runs
+
+    def begin(self):
+        running = self.desk.begin()
+        if self.running is not None:
+            self.desk.stop(self.running)
+        self.running = running
+
+    def release(self, *numbers):
+        return "no run" if self.running is None else self.desk.release(self.running, *numbers)
+
+    def advance(self, ticks):
+        if self.running is None:
+            return "no run"
+        done, late = self.desk.advance(self.running, ticks)
+        return done if late is None else "%d late %d %d" % (done, *late)
+
+    def worst(self, *numbers):
+        return "no run" if self.running is None else self.desk.worst(self.running, *numbers)
+
+    def stop(self):
+        if self.running is None:
+            return "no run"
+        clock, self.running = self.desk.stop(self.running), None
+        return clock
 
     # Edits and questions
 
@@ -136,7 +167,13 @@ class Console:
         return self.desk.most(place, window)
 
     def show(self, number, window):
-        return "%d fits" % self.desk.show(number, window, self.cells, self.list)
+        walk = self.desk.show(number, window, self.cells, self.list)
+        return " ".join(map(str, [len(walk), *walk]))
+
+    def walk(self, number, window):
+        """The work of any walk that may be shown."""
+        self.desk.show(number, window, self.cells, self.list)
+        return "%d fits" % self.desk.find(number).most(window)
 
     def save(self):
         text = self.desk.save()

@@ -1,13 +1,15 @@
 """A model of the bench, written from docs/ alone. It shares no code with the product.
 
-The table side: every call of the bench with its refusals, the work sheet, loading and saving a text,
-judging and bounds. Times are whole ticks. A call that refuses raises before it changes anything.
+Every call of the bench with its refusals, the work sheet, loading and saving a text, judging and
+bounds, and runs, tick by tick. Times are whole ticks. A call that refuses raises before it changes anything.
 """
 
 RANGE, SHORT, COST, DEADLINE, FORM, TRAILER = 1, 2, 3, 4, 5, 6
-DRAFT, TICKET, TASKS, ROOM, TAKEN, ABSENT, LINKED, GAP, LINK_OUT, REDUCED = 12, 13, 14, 15, 16, 17, 18, 19, 20, 21
+RUN, DRAFT, TICKET, TASKS, ROOM, TAKEN, ABSENT, LINKED, GAP, LINK_OUT, REDUCED = 11, 12, 13, 14, 15, 16, 17, 18, 19, 20, 21
+ABOVE_MODE, NOT_YET, ENDED, PAST = 22, 23, 24, 25
 
 SHEET, WINDOWS, LIST, TEXT = 16016, 1001, 1000, 65535
+CLOCK = 1000000
 
 
 class Refused(Exception):
@@ -112,6 +114,20 @@ class Task:
             return self.modes[0][0] * -(-window // self.gaps[(0, 0)])
         return max(row[window] for row in self.rows())
 
+    def walk(self, window):
+        """The modes of a walk that fits the window and has the most work. Which one is free."""
+        if not self.angular:
+            return [0] * -(-window // self.gaps[(0, 0)])
+        rows, modes = self.rows(), []
+        left = max(range(len(self.modes)), key=lambda m: rows[m][window]), window
+        while left is not None and left[1] > 0:
+            mode, window = left
+            modes.append(mode)
+            onward = rows[mode][window] - self.modes[mode][0]
+            follows = ((b, window - gap) for (a, b), gap in self.gaps.items() if a == mode and gap < window)
+            left = next(((b, w) for b, w in follows if rows[b][w] == onward), None)
+        return modes
+
     def fill(self, sheet):
         """What the work sheet holds after this task was closed, changed or shown."""
         if self.angular:
@@ -129,11 +145,68 @@ class Task:
         return "".join(lines)
 
 
+class Job:
+    def __init__(self, mode, released, work):
+        self.mode = mode
+        self.released = released
+        self.left = work
+
+
+class Run:
+    """A run of tasks, by place. A task has at most one job with work left: its next release is no
+    sooner than the deadline of the one before, and by then that one has ended or is late."""
+
+    def __init__(self, tasks):
+        self.tasks = tasks
+        self.clock = 0
+        self.jobs = {}
+        self.last = {}
+        self.longest = {}
+        self.late = None
+
+    def release(self, place, mode, cost):
+        task = self.tasks[place]
+        need(cost <= task.modes[mode][0], ABOVE_MODE)
+        if place in self.last:
+            before, released = self.last[place]
+            need((before, mode) in task.gaps and self.clock - released >= task.gaps[(before, mode)], NOT_YET)
+        need(self.late is None, ENDED)
+        assert place not in self.jobs
+        self.last[place] = mode, self.clock
+        self.jobs[place] = Job(mode, self.clock, cost)
+
+    def tick(self):
+        """A unit to the highest place with work left; then the clock; then who is late."""
+        if self.jobs:
+            place = min(self.jobs)
+            self.jobs[place].left -= 1
+        self.clock += 1
+        if self.jobs and self.jobs[place].left == 0:
+            job = self.jobs.pop(place)
+            taken = self.clock - job.released
+            self.longest[place, job.mode] = max(taken, self.longest.get((place, job.mode), 0))
+        for place in sorted(self.jobs):
+            job = self.jobs[place]
+            if job.released + self.tasks[place].modes[job.mode][1] == self.clock:
+                self.late = self.tasks[place].number, job.mode
+                return
+
+    def advance(self, ticks):
+        """The ticks that were done."""
+        need(self.late is None, ENDED)
+        need(self.clock + ticks <= CLOCK, PAST)
+        begin = self.clock
+        while self.late is None and self.clock < begin + ticks:
+            self.tick()
+        return self.clock - begin
+
+
 class Bench:
     def __init__(self, number):
         self.number = number
         self.tasks = []
         self.draft = None
+        self.run = None
         self.place = 0
         self.verdict = "none"
         self.bounds = {}
@@ -156,6 +229,7 @@ class Bench:
         need(is_task(number) and is_place(place) and is_ticks(cost) and is_ticks(deadline) and is_gap(period), RANGE)
         need(cost <= deadline, COST)
         need(deadline <= period, DEADLINE)
+        need(self.run is None, RUN)
         need(self.draft is None, DRAFT)
         need(len(self.tasks) < 16, ROOM)
         need(self.find(number) is None, TAKEN)
@@ -167,6 +241,7 @@ class Bench:
 
     def take(self, number):
         need(is_task(number), RANGE)
+        need(self.run is None, RUN)
         need(self.draft is None, DRAFT)
         task = self.with_mode(number)
         self.tasks.remove(task)
@@ -175,6 +250,7 @@ class Bench:
     def lower(self, number, mode, cost, sheet):
         need(is_task(number) and is_place(mode) and is_ticks(cost), RANGE)
         need(len(sheet) >= SHEET, SHORT)
+        need(self.run is None, RUN)
         need(self.draft is None, DRAFT)
         task = self.with_mode(number, mode)
         need(cost < task.modes[mode][0], REDUCED)
@@ -184,6 +260,7 @@ class Bench:
     def widen(self, number, a, b, gap, sheet):
         need(is_task(number) and is_place(a) and is_place(b) and is_gap(gap), RANGE)
         need(len(sheet) >= SHEET, SHORT)
+        need(self.run is None, RUN)
         need(self.draft is None, DRAFT)
         task = self.with_mode(number, a, b)
         need((a, b) in task.gaps, ABSENT)
@@ -194,6 +271,7 @@ class Bench:
     def cut(self, number, a, b, sheet):
         need(is_task(number) and is_place(a) and is_place(b), RANGE)
         need(len(sheet) >= SHEET, SHORT)
+        need(self.run is None, RUN)
         need(self.draft is None, DRAFT)
         task = self.with_mode(number, a, b)
         need((a, b) in task.gaps, ABSENT)
@@ -211,6 +289,7 @@ class Bench:
     def open(self, number, place):
         """Answers the ticket, which bears the bench's number."""
         need(is_task(number) and is_place(place), RANGE)
+        need(self.run is None, RUN)
         need(self.draft is None, DRAFT)
         need(len(self.tasks) < 16 and sum(t.angular for t in self.tasks) < 8, ROOM)
         need(self.find(number) is None, TAKEN)
@@ -250,10 +329,48 @@ class Bench:
         if ticket == self.number:
             self.draft = None
 
+    # The run
+
+    def begin(self):
+        """Answers the ticket, which bears the bench's number."""
+        need(self.run is None, RUN)
+        need(self.draft is None, DRAFT)
+        self.run = Run(self.tasks)
+        return self.number
+
+    def running(self, ticket):
+        need(ticket == self.number and self.run is not None, TICKET)
+        return self.run
+
+    def release(self, ticket, number, mode, cost):
+        need(is_task(number) and is_place(mode) and is_ticks(cost), RANGE)
+        run = self.running(ticket)
+        task = self.with_mode(number, mode)
+        run.release(self.tasks.index(task), mode, cost)
+
+    def advance(self, ticket, ticks):
+        """The ticks done, and the late task and mode, if any."""
+        need(is_ticks(ticks), RANGE)
+        run = self.running(ticket)
+        return run.advance(ticks), run.late
+
+    def worst(self, ticket, number, mode):
+        need(is_task(number) and is_place(mode), RANGE)
+        run = self.running(ticket)
+        task = self.with_mode(number, mode)
+        return run.longest.get((self.tasks.index(task), mode), 0)
+
+    def stop(self, ticket):
+        """The clock; 0 of a stranger's ticket, which is only ended."""
+        if ticket != self.number or self.run is None:
+            return 0
+        clock, self.run = self.run.clock, None
+        return clock
+
     # Text
 
     def load(self, text, sheet):
-        for condition, number in ((len(text) <= TEXT, RANGE), (len(sheet) >= SHEET, SHORT), (self.draft is None, DRAFT), (not self.tasks, TASKS)):
+        for condition, number in ((len(text) <= TEXT, RANGE), (len(sheet) >= SHEET, SHORT), (self.run is None, RUN), (self.draft is None, DRAFT), (not self.tasks, TASKS)):
             if not condition:
                 raise Fault(number, 0, 0, "table")
         work = list(sheet)
@@ -282,12 +399,18 @@ class Bench:
         return self.tasks[place].most(window) if place < len(self.tasks) and window <= 1000 else 0
 
     def show(self, number, window, sheet, cells):
-        """The work of the walks that may be shown in a list of so many cells."""
+        """A walk that may be shown in a list of so many cells, with the most work."""
         need(is_task(number) and 0 <= window <= 1000, RANGE)
         need(len(sheet) >= SHEET and cells >= LIST, SHORT)
         task = self.with_mode(number)
         task.fill(sheet)
-        return task.most(window)
+        walk = task.walk(window)
+        assert self.span(task, walk) < window or not walk
+        assert sum(task.modes[mode][0] for mode in walk) == task.most(window)
+        return walk
+
+    def span(self, task, walk):
+        return sum(task.gaps[link] for link in zip(walk, walk[1:]))
 
 
 FORMS = {b"sporadic": 4, b"angular": 1, b"mode": 2, b"link": 3, b"end": 2}
