@@ -5,6 +5,7 @@ import os
 import random
 
 import console
+import runs
 import texts
 
 EDGES = (0, 1, 2, 15, 16, 999, 1000, 1001, 100000, 100001, 4294967295)
@@ -18,7 +19,7 @@ BASE = texts.table([
 ])
 
 # Calls that change the sheet where they are accepted.
-FILLING = ("close", "load", "show", "lower", "widen", "cut")
+FILLING = ("close", "load", "walk", "lower", "widen", "cut")
 
 
 
@@ -81,10 +82,24 @@ def examples(lists):
         for place in range(4):
             lists.add("most", place, window)
         for number in (7, 20, 30):
-            lists.add("show", number, window)
+            lists.add("walk", number, window)
+    shown(lists)
     by_calls(lists, 3, lists.tasks)
     lists.add("judge")
     lists.look()
+
+
+def shown(lists):
+    """Walks that are shown where only one has the most work, and refusals."""
+    for number, window in ((7, 0), (7, 1), (7, 10), (7, 11), (7, 35), (7, 1000), (30, 51), (20, 0), (20, 1), (20, 13), (20, 28)):
+        lists.add("show", number, window)
+    for number, window in ((0, 5), (1000, 5), (20, 1001), (9, 5), (9, 1001)):
+        lists.add("show", number, window)
+    for memory in ("sheet", "list"):
+        lists.add("short", memory)
+        for number, window in ((20, 5), (20, 1001), (9, 5)):
+            lists.add("show", number, window)
+        lists.add("whole")
 
 
 def by_calls(lists, number, tasks):
@@ -188,7 +203,7 @@ def changes(lists, rng):
     for call in (("lower", 104, 15, 1), ("lower", 104, 14, 14), ("widen", 104, 15, 15, 700), ("widen", 104, 13, 0, 100000), ("cut", 104, 14, 14)):
         lists.play(call)
         lists.add("sheet")
-        lists.add("show", 104, rng.randint(61, 1000))
+        lists.add("walk", 104, rng.randint(61, 1000))
     lists.add("judge")
     for a in range(16):
         for b in rng.sample(range(16), 16):
@@ -213,7 +228,7 @@ LEGAL = {
     "link": (1, 0, 50),
     "bound": (20, 1),
     "most": (1, 28),
-    "show": (20, 28),
+    "walk": (20, 28),
 }
 
 
@@ -291,11 +306,11 @@ def contexts():
 def tried():
     """Calls of every kind, legal and not."""
     for number in (7, 20, 40, 200, 300, 60, 999):
-        yield from (("take", number), ("open", number, 1), ("put", number, 0, 2, 20, 15), ("show", number, 40), ("bound", number, 0))
+        yield from (("take", number), ("open", number, 1), ("put", number, 0, 2, 20, 15), ("walk", number, 40), ("bound", number, 0))
         for mode in (0, 1, 3):
             yield from (("lower", number, mode, 1), ("lower", number, mode, 5), ("widen", number, mode, 0, 31), ("widen", number, mode, mode, 12), ("cut", number, mode, 0), ("cut", number, mode, 2))
     yield from (("put", 70, 0, 9, 20, 8), ("put", 70, 0, 9, 10, 12), ("put", 0, 0, 9, 10, 12), ("put", 70, 16, 9, 10, 8), ("put", 70, 5, 11, 10, 12))
-    yield from (("open", 0, 0), ("open", 70, 16), ("open", 70, 15), ("show", 0, 5), ("show", 7, 1001), ("show", 1000, 5))
+    yield from (("open", 0, 0), ("open", 70, 16), ("open", 70, 15), ("walk", 0, 5), ("walk", 7, 1001), ("walk", 1000, 5))
     yield from (("mode", 1, 10), ("mode", 5, 4), ("mode", 0, 1), ("mode", 1001, 1001), ("mode", 1000, 1000))
     yield from (("link", 0, 0, 100000), ("link", 0, 1, 30), ("link", 1, 1, 19), ("link", 1, 1, 20), ("link", 2, 0, 50), ("link", 16, 0, 50), ("link", 15, 0, 50), ("link", 0, 15, 9), ("link", 15, 15, 9), ("link", 14, 15, 10))
     yield from (("close",), ("close",), ("abandon",), ("judge",), ("verdict",), ("save",), ("sheet",), ("most", 0, 100), ("most", 15, 1000))
@@ -373,7 +388,7 @@ class Player:
             return (number, mode)
         if call == "most":
             return (rng.randrange(max(1, len(self.lists.tasks))), rng.choice((0, 1, 9, 50, 333, 1000)))
-        if call == "show":
+        if call == "walk":
             return (number, rng.choice((0, 1, 2, 10, 60, 200, 1000, rng.randint(0, 1000))))
         return ()
 
@@ -385,9 +400,9 @@ class Player:
     def next_call(self):
         rng = self.rng
         if self.lists.console.ticket is not None:
-            names, weights = ("mode", "link", "close", "abandon", "put", "open", "take", "judge", "show", "bound"), (6, 30, 45, 3, 3, 2, 2, 2, 4, 3)
+            names, weights = ("mode", "link", "close", "abandon", "put", "open", "take", "judge", "walk", "bound"), (6, 30, 45, 3, 3, 2, 2, 2, 4, 3)
         else:
-            names = ("put", "open", "take", "lower", "widen", "cut", "judge", "verdict", "bound", "most", "show", "save", "mode", "close", "load")
+            names = ("put", "open", "take", "lower", "widen", "cut", "judge", "verdict", "bound", "most", "walk", "save", "mode", "close", "load")
             weights = (14, 22, 4, 9, 9, 8, 12, 2, 8, 6, 10, 2, 1, 1, 2)
         return rng.choices(names, weights)[0]
 
@@ -439,7 +454,7 @@ def shows(lists, rng):
             gaps = rng.sample(sorted(task.gaps.values()), min(2, len(task.gaps)))
             near = {w for g in gaps for w in (g, g + 1, 2 * g, 2 * g + 1) if w <= 1000}
             for window in sorted({0, 1, 2, 500, 999, 1000, rng.randint(3, 998), *near}):
-                lists.add("show", task.number, window)
+                lists.add("walk", task.number, window)
             lists.add("sheet")
         lists.look()
 
@@ -458,8 +473,9 @@ def refused_texts(lists, rng):
 
 def strangers_and_words(lists):
     """Lines that are no calls, numbers beyond 32 bits, and a bench that is dropped with its draft."""
-    for line in ("", " ", "judge ", "judge 1", "Judge", "put", "put 1 2 3 4", "put 1 2 3 4 5 6", "take", "take x", "take -1", "take 4294967296", "take 18446744073709551616", "short", "short list 1", "short lists", "fit ", "load", "load x", "load 1 2", "begin\t"):
+    for line in (" ", " #", "judge ", "judge 1", "Judge", "put", "put 1 2 3 4", "put 1 2 3 4 5 6", "take", "take x", "take -1", "take 4294967296", "take 18446744073709551616", "short", "short list 1", "short lists", "fit ", "load", "load x", "load 1 2", "begin\t", "begin 1", "stop 1", "advance", "release 1 2", "worst 1", "walk 7", "remark #"):
         lists.add(line)
+    remarks_and_digits(lists)
     lists.add("bench", 51)
     lists.add("short", "sheet")
     lists.load(b"x" * 65536)
@@ -483,6 +499,23 @@ def strangers_and_words(lists):
     lists.look()
 
 
+def remarks_and_digits(lists):
+    """Lines that are passed over, also where they stand in a text, and numbers of ten digits and more."""
+    lists.add("bench", 50)
+    for line in ("", "#", "# judge", "#judge", "", "", "##", "#" * 300, "put 7 0 2 10 10", "# put 8 0 2 10 10", "judge"):
+        lists.add(line)
+    for text in (b"# a remark\nend 0 0\n", b"\nend 0 0\n", b"", b"#", texts.TABLE + b"#\n"):
+        lists.add("bench", 50)
+        lists.load(text)
+        lists.add("#")
+    lists.load(texts.TABLE)
+    for line in ("bound 0000000007 0", "bound 00000000007 0", "bound 7 0000000000", "bound 7 00000000000", "most 4294967295 4294967295", "most 4294967296 1", "most 9999999999 1", "most 0 04294967295"):
+        lists.add(line)
+    for line in ("release 0000000020 01 03", "begin", "release 0000000020 01 03", "release 00000000020 1 3", "advance 00000000003", "advance 0000000003", "worst 020 001", "stop"):
+        lists.add(line)
+    lists.look()
+
+
 def main():
     rng = random.Random(20261119)
     lists = Lists()
@@ -494,6 +527,7 @@ def main():
     round_trips(lists, rng, 18)
     shows(lists, rng)
     long_lists(lists, rng, 50, 120)
+    runs.runs(lists, rng, BASE)
     folder = os.path.join(os.path.dirname(os.path.abspath(__file__)), "..", "crates", "console")
     with open(os.path.join(folder, "stdin"), "wb") as calls:
         calls.write(b"".join(lists.calls))

@@ -1,9 +1,10 @@
 -- The calls of a list, step by step. Assumes nothing.
 use Rattle.std.proofs.Common.{◌≡◌, ℕ, zero, suc, ◌+◌, ◌<◌, ◌≤◌, true, false, cond, List, [], ◌∷◌, length, take, drop, Some, None, Option, nat_lt, refl, sym, ap, ◌∙◌, arith, length-drop, unwrap_or}
 use Rattle.calls.specs.Words.{behind, prefix_length}
-use Rattle.calls.specs.Lists.{Read, alone, load_of, opened, load_length, call_of, first_read, calls_within, calls_of}
+use Rattle.calls.specs.Lists.{Read, alone, load_of, opened, load_length, entry_of, first_read, calls_within, calls_of}
 use Rattle.calls.specs.Words.{front}
-use Rattle.calls.specs.declared.call.Call.{Call}
+use Rattle.calls.specs.declared.call.Entry.{Entry}
+use Rattle.calls.specs.declared.call.Entry.TheVariants as entry
 use Rattle.calls.specs.declared.call.Call.TheVariants as call
 
 -- What follows the first line of a list is shorter than the list.
@@ -14,18 +15,18 @@ line_passed b bs e =
 
 loaded : (n : ℕ) (rest : List ℕ) → length (load_of n rest).rest ≤ length rest
 loaded n rest =
-    elim (nat_lt n (length rest)) as (λ t. length (cond t (record { call = Some (call.Load n); text = take n rest; rest = drop (n + 1) rest }) (alone None rest)).rest ≤ length rest)
+    elim (nat_lt n (length rest)) as (λ t. length (cond t (record { entry = entry.Call (call.Load n); text = take n rest; rest = drop (n + 1) rest }) (alone entry.Unknown rest)).rest ≤ length rest)
     [ true ↦ omega (arith, length-drop (n + 1) rest) | false ↦ omega arith ]
 
-opened_shorter : (o : Option ℕ) (c : Option Call) (rest : List ℕ) → length (opened o c rest).rest ≤ length rest
-opened_shorter None c rest = omega arith
-opened_shorter (Some n) c rest = loaded n rest
+opened_shorter : (o : Option ℕ) (e : Entry) (rest : List ℕ) → length (opened o e rest).rest ≤ length rest
+opened_shorter None e rest = omega arith
+opened_shorter (Some n) e rest = loaded n rest
 
 -- What follows the first call of a list is shorter than the list.
 call_passed : (b : ℕ) (bs : List ℕ) → length (first_read (b ∷ bs)).rest ≤ length bs
 call_passed b bs =
     let line = line_passed b bs 10 in
-    let text = opened_shorter (load_length (call_of (front (b ∷ bs) 10))) (call_of (front (b ∷ bs) 10)) (unwrap_or (behind (b ∷ bs) 10) []) in
+    let text = opened_shorter (load_length (entry_of (front (b ∷ bs) 10))) (entry_of (front (b ∷ bs) 10)) (unwrap_or (behind (b ∷ bs) 10) []) in
     omega (arith, line, text)
 
 -- Any bound that the list keeps to gives the same calls.

@@ -1,3 +1,4 @@
 pub mod Words
 pub mod Names
+pub mod Runs
 pub mod Lists

@@ -53,7 +53,8 @@ call_of_two w a b =
     (named w (codes "mode") (call.Drafting (drafting.Mode a b))
     (named w (codes "bound") (call.Ask (question.Bound a b))
     (named w (codes "most") (call.Ask (question.Most a b))
-    (named w (codes "show") (call.Show a b) None))))
+    (named w (codes "show") (call.Show a b)
+    (named w (codes "walk") (call.Walk a b) None)))))
 
 -- A call with three numbers.
 abbrev pub call_of_three : List ℕ → ℕ → ℕ → ℕ → Option Call

@@ -41,6 +41,16 @@ pub enum Drafting {
     Abandon,
 }
 
+/// A call that begins, plays or ends a run.
+#[derive(Clone, Copy)]
+pub enum Running {
+    Begin,
+    Release { number: u32, mode: u32, cost: u32 },
+    Advance { ticks: u32 },
+    Worst { number: u32, mode: u32 },
+    Stop,
+}
+
 /// A call that only asks.
 #[derive(Clone, Copy)]
 pub enum Question {
@@ -72,21 +82,35 @@ pub enum Length {
 /// A call, by its name and numbers.
 #[derive(Clone, Copy)]
 pub enum Call {
-    /// Another bench of that number; the draft in hand is abandoned on the one before.
+    /// Another bench of that number; draft and run in hand are ended on the one before.
     Bench(u32),
-    /// Another bench of that number; the draft in hand stays there, as a stranger's.
+    /// Another bench of that number; draft and run in hand stay there, as a stranger's.
     Keep(u32),
     Edit(Edit),
     Drafting(Drafting),
+    Running(Running),
     Ask(Question),
     /// A text of that many bytes, which follow the line.
     Load(u32),
     Save,
     Judge,
+    /// A walk, as the list of its modes.
     Show { number: u32, window: u32 },
+    /// A walk, as its work and whether it is one that fits.
+    Walk { number: u32, window: u32 },
     Lend(Memory, Length),
     /// All lent memory as it was at first.
     Whole,
+}
+
+/// What a line of a list is.
+#[derive(Clone, Copy)]
+pub enum Entry {
+    Call(Call),
+    /// No call.
+    Unknown,
+    /// An empty line, or one that begins with `#`: it is passed over, and nothing answers it.
+    Remark,
 }
 
 /// A line that is no call, or a word that names nothing to lend.

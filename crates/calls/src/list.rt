@@ -2,19 +2,22 @@
 ghost use Rattle.std.specs.Prelude.{◌≡◌, option_map};
 ghost use Rattle.std.specs.Result.{result_ok};
 ghost use Rattle.std.specs.Iterator.{YieldsFirstBy, item_count};
-ghost use Rattle.calls.specs.Lists.{lending_call, call_of, read, load_length, load_of, first_read, calls_left, calls_of};
+ghost use Rattle.calls.specs.Lists.{lending_call, call_of, remark, entry_of, read, load_length, load_of, first_read, calls_left, calls_of};
 
-use crate::call::{Call, Length, Memory, NoCall};
+use crate::call::{Call, Entry, Length, Memory, NoCall};
 use crate::names::named;
 use crate::words::{cut_at, numbers_of};
 use forms::separator::{LINE_FEED, SPACE};
 
 // The text stands beside the call, not in `Call::Load`: a call is copied as numbers alone.
 
-/// The first call of a list, if its line is one; the text that it brings; and the rest of the list.
+/// The byte that a remark begins with.
+const REMARK: u8 = b'#';
+
+/// What the first line of a list is; the text that its call brings; and the rest of the list.
 #[derive(Drop)]
 pub struct Step<'a> {
-    pub call: Option<Call>,
+    pub entry: Entry,
     pub text: &'a [u8],
     pub rest: &'a [u8],
 }
@@ -43,12 +46,30 @@ impl TryFrom<&[u8]> for Call {
     }
 }
 
-/// The length of the text that a call brings, if it brings one.
-fn load_length(call: Option<Call>) -> Option<u32>
-    ensures { result ≡ load_length call }
+/// Whether a line is passed over: an empty one, or one that begins with `#`.
+fn is_remark(line: &[u8]) -> bool
+    ensures { result ≡ remark line.now }
 {
-    match call {
-        Some(Call::Load(length)) => Some(length),
+    matches!(line, [] | [REMARK, ..])
+}
+
+/// What a line is.
+#[tactic(auto, unfolding(crate::specs::Lists::entry_of))]
+fn entry_of(line: &[u8]) -> Entry
+    ensures { result ≡ entry_of line.now }
+{
+    if is_remark(line) {
+        return Entry::Remark;
+    }
+    Call::try_from(line).map_or(Entry::Unknown, Entry::Call)
+}
+
+/// The length of the text that a call brings, if the line is one that brings one.
+fn load_length(entry: Entry) -> Option<u32>
+    ensures { result ≡ load_length entry }
+{
+    match entry {
+        Entry::Call(Call::Load(length)) => Some(length),
         _ => None,
     }
 }
@@ -63,37 +84,37 @@ fn with_text(length: u32, rest: &[u8]) -> Step<'_>
     let end = length as usize;
     if end < rest.len() {
         Step {
-            call: Some(Call::Load(length)),
+            entry: Entry::Call(Call::Load(length)),
             text: &rest[0..end],
             rest: &rest[end + 1..],
         }
     } else {
         Step {
-            call: None,
+            entry: Entry::Unknown,
             text: b"",
             rest,
         }
     }
 }
 
-/// The first call of a list.
+/// What the first line of a list is, with the text that it brings.
 pub fn first_call(list: &[u8]) -> Step<'_>
     ensures { read result ≡ first_read list.now }
 {
     let (line, after) = cut_at(list, LINE_FEED);
     let rest = after.unwrap_or(b"");
-    let call = Call::try_from(line).ok();
-    match load_length(call) {
+    let entry = entry_of(line);
+    match load_length(entry) {
         Some(length) => with_text(length, rest),
         None => Step {
-            call,
+            entry,
             text: b"",
             rest,
         },
     }
 }
 
-/// The calls of a list, in their order.
+/// The calls of a list, in their order, with the lines between them that are none.
 #[derive(Drop)]
 pub struct Calls<'a> {
     rest: &'a [u8],

@@ -2,13 +2,28 @@
 ghost use Rattle.std.specs.Prelude.{◌≡◌};
 ghost use Rattle.std.specs.Result.{result_ok};
 ghost use Rattle.calls.specs.Names.{length_named, memory_named};
-ghost use Rattle.calls.specs.Lists.{call_named};
+ghost use Rattle.calls.specs.Runs.{running_named};
+ghost use Rattle.calls.specs.Lists.{call_named, table_call};
 
-use crate::call::{Call, Drafting, Edit, Length, Memory, NoCall, Question};
+use crate::call::{Call, Drafting, Edit, Length, Memory, NoCall, Question, Running};
 
-/// The call of that name and those numbers.
-pub fn named(name: &[u8], numbers: &[u32]) -> Option<Call>
-    ensures { result ≡ call_named name.now numbers.now }
+/// The run's call of that name and those numbers.
+fn running_named(name: &[u8], numbers: &[u32]) -> Option<Running>
+    ensures { result ≡ running_named name.now numbers.now }
+{
+    match (name, numbers) {
+        (b"begin", []) => Some(Running::Begin),
+        (b"release", &[number, mode, cost]) => Some(Running::Release { number, mode, cost }),
+        (b"advance", &[ticks]) => Some(Running::Advance { ticks }),
+        (b"worst", &[number, mode]) => Some(Running::Worst { number, mode }),
+        (b"stop", []) => Some(Running::Stop),
+        _ => None,
+    }
+}
+
+/// The call of that name and those numbers, if it is none of a run.
+fn table_call(name: &[u8], numbers: &[u32]) -> Option<Call>
+    ensures { result ≡ table_call name.now numbers.now }
 {
     let call = match (name, numbers) {
         (b"bench", &[number]) => Call::Bench(number),
@@ -43,10 +58,21 @@ pub fn named(name: &[u8], numbers: &[u32]) -> Option<Call>
         (b"save", []) => Call::Save,
         (b"judge", []) => Call::Judge,
         (b"show", &[number, window]) => Call::Show { number, window },
+        (b"walk", &[number, window]) => Call::Walk { number, window },
         (b"whole", []) => Call::Whole,
         _ => return None,
     };
     Some(call)
+}
+
+/// The call of that name and those numbers.
+pub fn named(name: &[u8], numbers: &[u32]) -> Option<Call>
+    ensures { result ≡ call_named name.now numbers.now }
+{
+    match running_named(name, numbers) {
+        Some(running) => Some(Call::Running(running)),
+        None => table_call(name, numbers),
+    }
 }
 
 impl TryFrom<&[u8]> for Length {

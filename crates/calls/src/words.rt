@@ -10,6 +10,9 @@ use forms::separator::SPACE;
 /// The most numbers of a call.
 const NUMBERS: usize = 5;
 
+/// The most digits of a number.
+const DIGITS: usize = 10;
+
 /// The place of the first byte `end`, if it comes.
 fn place_of(bytes: &[u8], end: u8) -> Option<usize>
     ensures { result ≡ position (λ byte. byte == end) bytes.now }
@@ -30,11 +33,12 @@ pub fn cut_at(bytes: &[u8], end: u8) -> (&[u8], Option<&[u8]>)
 }
 
 /// The number that a word spells, if it is one of 32 bits. Unlike a number of a table's text, it may
-/// have more than six digits, and zeros in front.
+/// have up to ten digits, and zeros in front.
+#[tactic(auto, unfolding(crate::specs::Words::number_32))]
 fn number_of(word: &[u8]) -> Option<u32>
     ensures { result ≡ number_32 word.now }
 {
-    if word.is_empty() {
+    if word.is_empty() || word.len() > DIGITS {
         return None;
     }
     // A cast: the limit keeps the number within 32 bits, so `try_from` would refuse nothing.

@@ -6,9 +6,10 @@ ghost use Rattle.console.specs.Words.{answer_of, refusal_in, played, walk_words,
 use bench::verdict::Verdict;
 use faults::LoadFault;
 use line::refusal::Refusal;
+use run::{Advance, Late};
 use std::fmt;
 
-/// The work of a walk that was shown, by whether it is a walk that fits the window.
+/// The work of a walk that was written, by whether it is a walk that fits the window.
 #[derive(Clone, Copy)]
 pub enum Walk {
     Fits(u32),
@@ -25,12 +26,17 @@ pub enum Answer {
     Verdict(Option<Verdict>),
     /// The saved text has that many bytes.
     Saved(usize),
-    Shown(Walk),
+    /// The shown walk has that many modes.
+    Shown(usize),
+    Walk(Walk),
+    Advanced(Advance<u32>),
     Refused(Refusal),
     /// A refused load.
     Fault(LoadFault),
     /// A draft's call, and no draft is in hand.
     NoDraft,
+    /// A run's call, and no run is in hand.
+    NoRun,
     /// No call.
     Unknown,
 }
@@ -69,7 +75,7 @@ impl Answer {
         ensures { result ≡ played self }
     {
         match self {
-            Answer::NoDraft | Answer::Unknown => false,
+            Answer::NoDraft | Answer::NoRun | Answer::Unknown => false,
             Answer::Refused(_) | Answer::Fault(_) => false,
             _ => true,
         }
@@ -87,7 +93,7 @@ impl Answer {
     }
 }
 
-/// A shown walk: its work, and whether it is one that fits.
+/// A walk: its work, and whether it is one that fits.
 impl fmt::Display for Walk {
     ghost output = { λ walk. Some (walk_words walk) };
 
@@ -99,7 +105,7 @@ impl fmt::Display for Walk {
     }
 }
 
-/// The line of an answer, without its line feed. A saved text has lines of its own.
+/// The line of an answer, without its line feed. A saved text and a shown walk have lines of their own.
 impl fmt::Display for Answer {
     ghost output = { λ answer. Some (answer_words answer) };
 
@@ -109,14 +115,22 @@ impl fmt::Display for Answer {
             Answer::Number(number) => write!(f, "{number}"),
             Answer::Verdict(None) => f.write_str("none"),
             Answer::Verdict(Some(verdict)) => write!(f, "{verdict}"),
-            Answer::Saved(_) => Ok(()),
-            Answer::Shown(walk) => write!(f, "{walk}"),
+            Answer::Saved(_) | Answer::Shown(_) => Ok(()),
+            Answer::Walk(walk) => write!(f, "{walk}"),
+            Answer::Advanced(Advance { ticks, late: None }) => write!(f, "{ticks}"),
+            Answer::Advanced(
+                Advance {
+                    ticks,
+                    late: Some(Late { task, mode }),
+                },
+            ) => write!(f, "{ticks} late {task} {mode}"),
             Answer::Refused(refusal) => {
                 let number = refusal.number();
                 write!(f, "refused {number}")
             }
             Answer::Fault(fault) => write!(f, "{fault}"),
             Answer::NoDraft => f.write_str("no draft"),
+            Answer::NoRun => f.write_str("no run"),
             Answer::Unknown => f.write_str("unknown"),
         }
     }

@@ -2,9 +2,9 @@
 //! output: a line for each call, and the text itself for a save.
 //!
 //! A call is a line, as `put 7 0 2 10 10` or `judge`; `load LENGTH` is followed by a text of that many
-//! bytes and a line feed. A refusal is written as `refused NUMBER`, with line, byte place and layer
-//! where a load is refused, and with `changed` behind it if bench, bounds or lent memory are not as
-//! they were.
+//! bytes and a line feed. Empty lines, and those that begin with `#`, are passed over. A refusal is
+//! written as `refused NUMBER`, with line, byte place and layer where a load is refused, and with
+//! `changed` behind it if bench, bounds, longest times or lent memory are not as they were.
 #![tactic(auto)]
 
 mod answer;
@@ -15,19 +15,19 @@ mod walk;
 
 use answer::Answer;
 use anyhow::anyhow;
+use calls::call::Entry;
 use calls::list::{Calls, Step};
 use player::Player;
 use std::io::{Read, Write};
 
-/// Plays a call, if it is one, and writes its answer.
+/// Plays the call of a line, if it is one, and writes its answer. A line that is passed over has none.
 fn play(rt: &HostRuntime, player: &mut Player, step: &Step<'_>) -> anyhow::Result<()> {
-    let answer = match step.call {
-        Some(call) => player.play(call, step.text),
-        None => Answer::Unknown,
+    let (call, answer) = match step.entry {
+        Entry::Remark => return Ok(()),
+        Entry::Unknown => (None, Answer::Unknown),
+        Entry::Call(call) => (Some(call), player.play(call, step.text)),
     };
-    let line = player
-        .tell(step.call, answer)
-        .map_err(|_| anyhow!("no memory"))?;
+    let line = player.tell(call, answer).map_err(|_| anyhow!("no memory"))?;
     rt.stdout().write_all(&line)?;
     Ok(())
 }

@@ -2,24 +2,28 @@
 use crate::answer::{Answer, Walk};
 use crate::lent::{Lent, digest};
 use crate::seen::Seen;
-use crate::walk::{is_fitting, is_kept, work_of};
+use crate::walk::{is_fitting, is_kept, shown_line, work_of};
 use bench::bench::Bench;
-use bench::ticket::Draft;
-use calls::call::{Call, Drafting, Edit, Length, Memory, Question};
+use bench::ticket::{Draft, Run};
+use calls::call::{Call, Drafting, Edit, Length, Memory, Question, Running};
 use line::Line;
 use line::refusal::Refusal;
 use save::save::save;
 use std::alloc::{AllocError, Global};
 use store::load::load;
 
-/// The number of the bench before any is made.
-const BENCH: u32 = 0;
+mod drafts;
+mod runs;
 
-/// A bench, the draft in hand, the memory that is lent to the bench, and what stood after the last
+/// The number of the bench before any is made.
+const BENCH: u32 = 1;
+
+/// A bench, the draft and the run in hand, the memory that is lent to the bench, and what stood after the last
 /// accepted call.
 pub struct Player {
     bench: Bench,
-    hand: Option<Draft>,
+    draft: Option<Draft>,
+    run: Option<Run>,
     lent: Lent,
     seen: Seen,
     heap: Global,
@@ -29,45 +33,32 @@ impl Player {
     pub(crate) fn new(heap: Global) -> Result<Player, Refusal> {
         let bench = Bench::new(BENCH, heap)?;
         let lent = Lent::new(heap)?;
-        let seen = Seen::new(heap, &bench, &lent)?;
+        let seen = Seen::new(heap, &bench, None, &lent)?;
         Ok(Player {
             bench,
-            hand: None,
+            draft: None,
+            run: None,
             lent,
             seen,
             heap,
         })
     }
 
-    /// Ends the draft in hand, if there is one, and the player.
+    /// Ends draft and run in hand, as far as they are there, and the player.
     pub(crate) fn finish(self) {
         let Player {
             mut bench,
-            hand,
+            draft,
+            run,
             lent: _,
             seen: _,
             heap: _,
         } = self;
-        if let Some(draft) = hand {
+        if let Some(draft) = draft {
             bench.abandon(draft);
         }
-    }
-
-    /// Ends the draft in hand, if there is one.
-    fn abandon(&mut self) -> Answer {
-        match self.hand.take() {
-            Some(draft) => {
-                self.bench.abandon(draft);
-                Answer::Done
-            }
-            None => Answer::NoDraft,
-        }
-    }
-
-    /// Takes a draft in hand, and ends another that was there.
-    fn hold(&mut self, draft: Draft) {
-        if let Some(other) = self.hand.replace(draft) {
-            self.bench.abandon(other);
+        if let Some(run) = run {
+            bench.stop(run);
         }
     }
 
@@ -114,44 +105,6 @@ impl Player {
         }
     }
 
-    /// Opens a draft. One that is in hand, a stranger's, is ended where another is handed out.
-    fn open(&mut self, number: u32, place: usize) -> Result<(), Refusal> {
-        let draft = self.bench.open(number, place)?;
-        self.hold(draft);
-        Ok(())
-    }
-
-    /// Closes the draft in hand; a refused close hands it back.
-    fn close(&mut self) -> Answer {
-        let Some(draft) = self.hand.take() else {
-            return Answer::NoDraft;
-        };
-        match self.bench.close(draft, &mut self.lent.sheet) {
-            Ok(()) => Answer::Done,
-            Err((draft, refusal)) => {
-                self.hold(draft);
-                refusal.into()
-            }
-        }
-    }
-
-    /// A call that opens a draft, or one on the draft in hand.
-    fn drafting(&mut self, call: Drafting) -> Answer {
-        match (call, &self.hand) {
-            (Drafting::Open { number, place }, _) => self.open(number, place as usize).into(),
-            (Drafting::Close, _) => self.close(),
-            (Drafting::Abandon, _) => self.abandon(),
-            (_, None) => Answer::NoDraft,
-            (Drafting::Mode { cost, deadline }, Some(draft)) => {
-                self.bench.mode(draft, cost, deadline).into()
-            }
-            (Drafting::Link { from, to, gap }, Some(draft)) => self
-                .bench
-                .link(draft, from as usize, to as usize, gap)
-                .into(),
-        }
-    }
-
     fn bound(&self, number: u32, mode: usize) -> Answer {
         self.bench
             .bound(number, mode)
@@ -182,7 +135,7 @@ impl Player {
     }
 
     /// What is to be told of a walk of so many modes that stands in the list.
-    fn walk(&self, number: u32, window: u32, len: usize) -> Walk {
+    fn written_walk(&self, number: u32, window: u32, len: usize) -> Walk {
         let list: &[u8] = &self.lent.list;
         let table = self.bench.table();
         match table.place_of(number) {
@@ -199,12 +152,16 @@ impl Player {
         }
     }
 
-    fn show(&mut self, number: u32, window: u32) -> Answer {
-        let shown = self
-            .bench
-            .show(number, window, &mut self.lent.sheet, &mut self.lent.list);
-        match shown {
-            Ok(len) => Answer::Shown(self.walk(number, window, len)),
+    /// Has a walk written into the list, and answers its length.
+    fn show(&mut self, number: u32, window: u32) -> Result<usize, Refusal> {
+        self.bench
+            .show(number, window, &mut self.lent.sheet, &mut self.lent.list)
+    }
+
+    /// Has a walk written into the list, and answers what is to be told of it.
+    fn walk(&mut self, number: u32, window: u32) -> Answer {
+        match self.show(number, window) {
+            Ok(len) => Answer::Walk(self.written_walk(number, window, len)),
             Err(refusal) => refusal.into(),
         }
     }
@@ -227,16 +184,21 @@ impl Player {
         match call {
             Call::Bench(number) => {
                 self.abandon();
+                self.stop();
                 self.renew(number).into()
             }
             Call::Keep(number) => self.renew(number).into(),
             Call::Edit(edit) => self.edit(edit).into(),
             Call::Drafting(call) => self.drafting(call),
+            Call::Running(call) => self.running(call),
             Call::Ask(question) => self.ask(question),
             Call::Load(_) => self.load(text),
             Call::Save => self.save(),
             Call::Judge => Answer::Verdict(Some(self.bench.judge())),
-            Call::Show { number, window } => self.show(number, window),
+            Call::Show { number, window } => self
+                .show(number, window)
+                .map_or_else(Answer::Refused, Answer::Shown),
+            Call::Walk { number, window } => self.walk(number, window),
             Call::Lend(memory, length) => self.lend(memory, length).into(),
             Call::Whole => self.restore().into(),
         }
@@ -244,7 +206,7 @@ impl Player {
 
     /// Keeps what stands after an accepted call.
     fn look(&mut self) -> Result<(), Refusal> {
-        self.seen = Seen::new(self.heap, &self.bench, &self.lent)?;
+        self.seen = Seen::new(self.heap, &self.bench, self.run.as_ref(), &self.lent)?;
         Ok(())
     }
 
@@ -252,7 +214,9 @@ impl Player {
     pub(crate) fn tell(&mut self, call: Option<Call>, answer: Answer) -> Result<Vec<u8>, Refusal> {
         let changed = match answer.refusal() {
             Some(Refusal::NoMemory) => return Err(Refusal::NoMemory),
-            Some(_) => !self.seen.stands(self.heap, &self.bench, &self.lent)?,
+            Some(_) => !self
+                .seen
+                .stands(self.heap, &self.bench, self.run.as_ref(), &self.lent)?,
             None => {
                 if answer.is_played() && may_change(call) {
                     self.look()?;
@@ -263,11 +227,15 @@ impl Player {
         Ok(self.written(answer, changed)?)
     }
 
-    /// The saved text, or the line of another answer, which says whether a refused call changed
-    /// something.
+    /// The saved text, the shown walk, or the line of another answer, which says whether a refused call
+    /// changed something.
     fn written(&self, answer: Answer, changed: bool) -> Result<Vec<u8>, AllocError> {
         let output: &[u8] = &self.lent.output;
+        let list: &[u8] = &self.lent.list;
         match answer {
+            Answer::Shown(len) if len <= list.len() => {
+                Ok(shown_line(self.heap, &list[..len])?.into_bytes())
+            }
             Answer::Saved(len) if len <= output.len() => Vec::from_slice(self.heap, &output[..len]),
             _ if changed => Ok(format!(in self.heap; "{answer} changed\n")?.into_bytes()),
             _ => Ok(format!(in self.heap; "{answer}\n")?.into_bytes()),
@@ -280,6 +248,10 @@ fn may_change(call: Option<Call>) -> bool {
     match call {
         None | Some(Call::Ask(_)) => false,
         Some(Call::Drafting(call)) => matches!(call, Drafting::Close),
+        Some(Call::Running(call)) => !matches!(
+            call,
+            Running::Release { .. } | Running::Worst { .. }
+        ),
         Some(_) => true,
     }
 }

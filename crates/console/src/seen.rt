@@ -1,6 +1,7 @@
 //! What stands after an accepted call, kept to see that a refused one changes nothing.
 use crate::lent::Lent;
 use bench::bench::Bench;
+use bench::ticket::Run;
 use bench::verdict::Verdict;
 use line::limits::{MODES, PLACES};
 use line::refusal::Refusal;
@@ -9,12 +10,14 @@ use std::alloc::Global;
 use std::array;
 use store::load::TEXT;
 
-/// The table's text, the verdict, the bound of each mode by place, and the lent memory.
+/// The table's text, the verdict, the bound of each mode by place, its longest time in the run in hand, and the lent
+/// memory.
 #[derive(Drop)]
 pub struct Seen {
     text: Vec<u8>,
     verdict: Option<Verdict>,
     bounds: [[u32; MODES]; PLACES],
+    longest: [[u32; MODES]; PLACES],
     lent: Lent,
 }
 
@@ -40,14 +43,32 @@ fn bounds_of(bench: &Bench) -> [[u32; MODES]; PLACES] {
     array::from_fn(|place| array::from_fn(|mode| bound_at(bench, place, mode)))
 }
 
+/// The longest time in a run of a mode of the task at a place, and 0 where there is none.
+fn longest_at(bench: &Bench, run: Option<&Run>, place: usize, mode: usize) -> u32 {
+    // 0 is what a run answers of a mode without a finished job, and is seen of a stranger's ticket.
+    run.and_then(|run| bench.worst(run, bench.table().number_at(place), mode).ok())
+        .unwrap_or(0)
+}
+
+/// The longest times in a run, by place and mode.
+fn longest_of(bench: &Bench, run: Option<&Run>) -> [[u32; MODES]; PLACES] {
+    array::from_fn(|place| array::from_fn(|mode| longest_at(bench, run, place, mode)))
+}
+
 impl Seen {
-    pub(crate) fn new(heap: Global, bench: &Bench, lent: &Lent) -> Result<Seen, Refusal> {
+    pub(crate) fn new(
+        heap: Global,
+        bench: &Bench,
+        run: Option<&Run>,
+        lent: &Lent,
+    ) -> Result<Seen, Refusal> {
         let text = text_of(heap, bench)?;
         let lent = lent.clone()?;
         Ok(Seen {
             text,
             verdict: bench.verdict(),
             bounds: bounds_of(bench),
+            longest: longest_of(bench, run),
             lent,
         })
     }
@@ -63,12 +84,19 @@ impl Seen {
     }
 
     /// Whether all is as it was seen.
-    pub(crate) fn stands(&self, heap: Global, bench: &Bench, lent: &Lent) -> Result<bool, Refusal> {
+    pub(crate) fn stands(
+        &self,
+        heap: Global,
+        bench: &Bench,
+        run: Option<&Run>,
+        lent: &Lent,
+    ) -> Result<bool, Refusal> {
         let text = text_of(heap, bench)?;
         Ok(
             self.text == text
                 && self.verdict == bench.verdict()
                 && self.bounds == bounds_of(bench)
+                && self.longest == longest_of(bench, run)
                 && self.lent == *lent,
         )
     }

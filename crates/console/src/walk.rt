@@ -1,5 +1,9 @@
-//! A walk that was shown, by the table's own answers on costs and gaps.
+//! A walk that was written: its line, and its work and gaps by the table's own answers.
+ghost use Rattle.std.specs.Prelude.{◌≡◌, string_bytes, IfOk};
+ghost use Rattle.console.specs.Words.{shown_line};
+
 use line::Line;
+use std::alloc::{AllocError, Global};
 use table::table::Table;
 
 /// The work of a list of modes of the task at a place: the sum of their costs.
@@ -33,4 +37,18 @@ pub(crate) fn is_fitting(table: &Table, place: usize, walk: &[u8], window: u32) 
 /// Whether the cells from `len` on are as they were.
 pub(crate) fn is_kept(list: &[u8], was: &[u8], len: usize) -> bool {
     len <= list.len() && len <= was.len() && list[len..] == was[len..]
+}
+
+/// The line of a walk: how many modes it has, and its modes.
+pub(crate) fn shown_line(heap: Global, walk: &[u8]) -> Result<String, AllocError>
+    ensures { IfOk result (λ s. string_bytes s ≡ shown_line walk.now) }
+{
+    let mut line = String::new(heap);
+    let len = walk.len();
+    write!(line, "{len}")?;
+    for mode in walk {
+        write!(line, " {mode}")?;
+    }
+    writeln!(line)?;
+    Ok(line)
 }
