@@ -1,5 +1,6 @@
 """Writes crates/console/stdin and stdout: lists of calls, and their answers, worked out by model.py.
 Run it with Python's standard library: python3 reference/calls.py
+Lists and answers of reference/vectors/, worked out by another program, stand behind them.
 """
 import os
 import random
@@ -516,6 +517,21 @@ def remarks_and_digits(lists):
     lists.look()
 
 
+VECTORS = os.path.join(os.path.dirname(os.path.abspath(__file__)), "vectors")
+
+
+def vectors(lists):
+    """The lists of another program, each on a new bench with new memory, and its answers."""
+    for name in ("tables", "texts", "calls"):
+        lists.add("whole")
+        lists.add("bench", 1)
+        with open(os.path.join(VECTORS, name + ".in"), "rb") as calls, open(os.path.join(VECTORS, name + ".out")) as answers:
+            data, said = calls.read(), answers.read()
+        assert console.answers(data) == said
+        lists.calls.append(data)
+        lists.answers.append(said)
+
+
 def main():
     rng = random.Random(20261119)
     lists = Lists()
@@ -528,6 +544,7 @@ def main():
     shows(lists, rng)
     long_lists(lists, rng, 50, 120)
     runs.runs(lists, rng, BASE)
+    vectors(lists)
     folder = os.path.join(os.path.dirname(os.path.abspath(__file__)), "..", "crates", "console")
     with open(os.path.join(folder, "stdin"), "wb") as calls:
         calls.write(b"".join(lists.calls))
