@@ -165,6 +165,15 @@ def largest(rng):
     return texts.table(blocks)
 
 
+def longest():
+    """The longest text: numbers of the most digits wherever they may stand."""
+    blocks = []
+    for number in range(901, 909):
+        blocks.append(texts.angular(number, [(1000, 1000)] * 16, [(a, b, 100000) for a in range(16) for b in range(16)]))
+        blocks.append(b"sporadic %d 1000 100000 1000\n" % (number + 50))
+    return texts.table(blocks)
+
+
 def round_trip(lists, text):
     lists.add("bench", 11)
     lists.load(text)
@@ -183,13 +192,19 @@ def round_trip(lists, text):
     lists.add("judge")
     for task in list(lists.tasks):
         lists.add("bound", task.number, len(task.modes) - 1)
-    lists.add("long", "output")
+    for length in ("fit", "long"):
+        lists.add(length, "output")
+        lists.add("save")
+        lists.add("output")
 
 
 def round_trips(lists, rng, count):
     for _ in range(count):
         lists.add("whole")
         round_trip(lists, random_table(rng))
+    for text in (b"end 0 0\n", longest()):
+        lists.add("whole")
+        round_trip(lists, text)
     lists.add("whole")
     round_trip(lists, largest(rng))
     by_calls(lists, 13, lists.tasks)
@@ -206,6 +221,9 @@ def changes(lists, rng):
         lists.add("sheet")
         lists.add("walk", 104, rng.randint(61, 1000))
     lists.add("judge")
+    for call in (("lower", 104, 15, 1), ("lower", 104, 16, 1), ("lower", 104, 15, 2), ("widen", 104, 15, 15, 700), ("widen", 104, 15, 15, 699), ("widen", 104, 16, 0, 700), ("cut", 104, 14, 14)):
+        lists.play(call)
+        lists.add("sheet")
     for a in range(16):
         for b in rng.sample(range(16), 16):
             lists.add("cut", 104, a, b)
@@ -291,6 +309,7 @@ def contexts():
     yield "short sheet and draft", [base, *draft, ("short", "sheet")]
     yield "short sheet and half a draft", [base, *draft[:-1], ("short", "sheet")]
     yield "long sheet", [base, *draft, ("long", "sheet"), ("long", "list")]
+    yield "long sheet and no draft", [base, ("long", "sheet"), ("long", "list")]
     yield "short list", [base, ("short", "list")]
     yield "short list and sheet", [base, ("short", "list"), ("short", "sheet")]
     yield "short output", [base, ("short", "output")]
@@ -310,7 +329,8 @@ def tried():
         yield from (("take", number), ("open", number, 1), ("put", number, 0, 2, 20, 15), ("walk", number, 40), ("bound", number, 0))
         for mode in (0, 1, 3):
             yield from (("lower", number, mode, 1), ("lower", number, mode, 5), ("widen", number, mode, 0, 31), ("widen", number, mode, mode, 12), ("cut", number, mode, 0), ("cut", number, mode, 2))
-    yield from (("put", 70, 0, 9, 20, 8), ("put", 70, 0, 9, 10, 12), ("put", 0, 0, 9, 10, 12), ("put", 70, 16, 9, 10, 8), ("put", 70, 5, 11, 10, 12))
+    yield from (("put", 70, 0, 9, 20, 8), ("put", 70, 0, 9, 10, 12), ("put", 0, 0, 9, 10, 12), ("put", 70, 16, 9, 10, 8), ("put", 70, 5, 11, 10, 12), ("put", 70, 0, 9, 20, 21))
+    yield from (("widen", 7, 0, 0, 11), ("widen", 7, 0, 0, 10), ("widen", 7, 0, 0, 9), ("widen", 20, 0, 1, 20), ("widen", 20, 0, 1, 19))
     yield from (("open", 0, 0), ("open", 70, 16), ("open", 70, 15), ("walk", 0, 5), ("walk", 7, 1001), ("walk", 1000, 5))
     yield from (("mode", 1, 10), ("mode", 5, 4), ("mode", 0, 1), ("mode", 1001, 1001), ("mode", 1000, 1000))
     yield from (("link", 0, 0, 100000), ("link", 0, 1, 30), ("link", 1, 1, 19), ("link", 1, 1, 20), ("link", 2, 0, 50), ("link", 16, 0, 50), ("link", 15, 0, 50), ("link", 0, 15, 9), ("link", 15, 15, 9), ("link", 14, 15, 10))
@@ -540,7 +560,7 @@ def main():
     edges(lists, rng)
     states(lists, rng)
     refused_texts(lists, rng)
-    round_trips(lists, rng, 18)
+    round_trips(lists, rng, 40)
     shows(lists, rng)
     long_lists(lists, rng, 50, 120)
     runs.runs(lists, rng, BASE)

@@ -40,11 +40,14 @@ fn new_sheet(heap: Global, len: usize) -> Result<Vec<u32>, AllocError> {
 }
 
 /// Bytes from `least` to `least + 6`, again and again.
+// A cast: what is left of a division by 7 is below 256, and `try_from` would need an answer for what never comes.
 fn new_bytes(heap: Global, len: usize, least: u8) -> Result<Vec<u8>, AllocError> {
     (0..len)
         .map(|place| least.wrapping_add((place % 7) as u8))
         .collect(heap)
 }
+
+// Two functions: one adds cells to what is asked for, the other has one length for every long output.
 
 /// How many cells are lent of a sheet or a list of which `asked` cells are asked for.
 fn cells_of(length: Length, asked: usize) -> usize

@@ -6,6 +6,7 @@ use crate::walk::{is_fitting, is_kept, shown_line, work_of};
 use bench::bench::Bench;
 use bench::ticket::{Draft, Run};
 use calls::call::{Call, Drafting, Edit, Length, Memory, Question, Running};
+use history::new_bench;
 use line::Line;
 use line::refusal::Refusal;
 use save::save::save;
@@ -29,9 +30,11 @@ pub struct Player {
     heap: Global,
 }
 
+// A call's numbers have 32 bits, which `as usize` widens where the bench takes a place or a mode.
+
 impl Player {
     pub(crate) fn new(heap: Global) -> Result<Player, Refusal> {
-        let bench = Bench::new(BENCH, heap)?;
+        let bench = new_bench(BENCH, heap)?;
         let lent = Lent::new(heap)?;
         let seen = Seen::new(heap, &bench, None, &lent)?;
         Ok(Player {
@@ -64,12 +67,11 @@ impl Player {
 
     /// Another bench of that number in place of this one.
     fn renew(&mut self, number: u32) -> Result<(), Refusal> {
-        self.bench = Bench::new(number, self.heap)?;
+        self.bench = new_bench(number, self.heap)?;
         Ok(())
     }
 
-    /// A task put in or taken out, or a change of one where it stands. A call's numbers have 32 bits,
-    /// which `as usize` widens where the bench takes a place or a mode.
+    /// A task put in or taken out, or a change of one where it stands.
     fn edit(&mut self, edit: Edit) -> Result<(), Refusal> {
         match edit {
             Edit::Put {

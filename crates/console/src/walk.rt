@@ -6,6 +6,8 @@ use line::Line;
 use std::alloc::{AllocError, Global};
 use table::table::Table;
 
+// A table, a place in it and a walk there go together here alone: each question takes them once, and nothing keeps them.
+
 /// The work of a list of modes of the task at a place: the sum of their costs.
 pub(crate) fn work_of(table: &Table, place: usize, walk: &[u8]) -> u32 {
     walk.iter().fold(0, |work: u32, mode| {
@@ -27,10 +29,10 @@ fn span_of(table: &Table, place: usize, walk: &[u8], rest: &[u8]) -> Option<u32>
 pub(crate) fn is_fitting(table: &Table, place: usize, walk: &[u8], window: u32) -> bool {
     match walk {
         [] => true,
-        [first, rest @ ..] => match span_of(table, place, walk, rest) {
-            Some(span) => usize::from(*first) < table.modes(place) && span < window,
-            None => false,
-        },
+        [first, rest @ ..] => span_of(table, place, walk, rest).is_some_and(|span| usize::from(
+            *first,
+        ) < table.modes(place)
+            && span < window),
     }
 }
 
