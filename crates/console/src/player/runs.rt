@@ -5,6 +5,8 @@ use bench::ticket::Run;
 use calls::call::Running;
 use line::refusal::Refusal;
 
+// As drafts are held and ended, but by calls that answer differently: abandon answers nothing, and stop the clock.
+
 impl Player {
     /// Ends the run in hand, if there is one.
     pub(super) fn stop(&mut self) -> Answer {
