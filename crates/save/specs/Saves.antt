@@ -1,5 +1,5 @@
 -- What save answers and leaves. Assumes nothing.
-use Rattle.std.specs.Prelude.{◌≡◌, ℕ, ◌<◌, cond, List, ◌++◌, length, drop, Ok, Err, Result, nat_lt}
+use Rattle.std.specs.Prelude.{◌≡◌, ℕ, ◌<◌, cond, List, ◌++◌, length, take, drop, Ok, Err, Result, nat_lt}
 use Rattle.line.specs.declared.refusal.Refusal.{Refusal}
 use Rattle.line.specs.declared.refusal.Refusal.TheVariants.{TooShort, NoMemory}
 use Rattle.line.specs.Answers.{sheet_answer}
@@ -15,8 +15,7 @@ abbrev pub room_answer : ℕ → ℕ → Result (Unit {0}) Refusal
 room_answer len room = cond (nat_lt room len) (Err TooShort) (Ok tt)
 
 -- The output begins with the table's text, whose length is answered, and its later bytes stay; or it is too short
--- for the text, and stays as it was. The text is a function of the tasks alone, so two texts that load as the
--- same tasks are saved as the same bytes.
+-- for the text, and stays as it was.
 abbrev pub SaveDone : List Item → List ℕ → List ℕ → Result ℕ Refusal → Type 0
 SaveDone is was now (Ok n) = (n ≡ length (text_of is)) × (now ≡ text_of is ++ drop n was)
 SaveDone is was now (Err e) = (e ≡ TooShort) × (length was < length (text_of is)) × (now ≡ was)
@@ -34,8 +33,14 @@ abbrev pub Reloaded : State → List Item → Result (Unit {0}) LoadFault → St
 Reloaded s is (Ok u) s' = s' ≡ edited s (with_tasks s.desk is)
 Reloaded s is (Err f) s' = f.refusal ≡ NoMemory
 
--- A load of the saved text onto any bench with no task and no draft, with a work sheet that is long enough, leaves just
--- those tasks there, and is never refused but for want of memory.
+-- A load of the saved text onto any bench with no task, no draft and no run, with a work sheet that is long enough,
+-- leaves just those tasks there, and is never refused but for want of memory.
 abbrev pub LoadsBack : List Item → Type 0
 LoadsBack is =
     (s s' : State) (sheet sheet' : List ℕ) (r : Result (Unit {0}) LoadFault) → sheet_answer (length sheet) ≡ Ok tt → install_answer s ≡ Ok tt → LoadDone s (text_of is) sheet r s' sheet' → Reloaded s is r s'
+
+-- Saving what was loaded gives the table's one text: two benches onto which texts were loaded as those tasks save as the
+-- same bytes, whatever the texts, the benches before the loads and the outputs were.
+abbrev pub SavedOnce : List Item → Type 0
+SavedOnce is =
+    (s s' t t' : State) (text text' sheet sheet' cells cells' was now was' now' : List ℕ) (n n' : ℕ) → LoadDone s text sheet (Ok tt) s' sheet' → LoadDone t text' cells (Ok tt) t' cells' → s'.desk.tasks ≡ is → t'.desk.tasks ≡ is → SaveDone s'.desk.tasks was now (Ok n) → SaveDone t'.desk.tasks was' now' (Ok n') → (take n now ≡ text_of is) × (take n' now' ≡ text_of is)

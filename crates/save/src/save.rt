@@ -3,7 +3,7 @@ ghost use Rattle.std.specs.Prelude.{◌≡◌, ◌≤◌, length};
 ghost use Rattle.bench.specs.State.{state};
 ghost use Rattle.table.specs.Tables.{items};
 ghost use Rattle.save.specs.Texts.{text_of};
-ghost use Rattle.save.specs.Saves.{room_answer, SaveDone, ReadsBack, ReadsOnly, LoadsBack};
+ghost use Rattle.save.specs.Saves.{room_answer, SaveDone, ReadsBack, ReadsOnly, LoadsBack, SavedOnce};
 
 use crate::measure::{measure, trailer};
 use crate::write::{write_line, write_tasks};
@@ -42,6 +42,7 @@ pub fn save(bench: &Bench, out: &mut [u8]) -> Result<usize, Refusal>
     ensures back { ReadsBack (state bench.now).desk.tasks }
     ensures only { ReadsOnly (state bench.now).desk.tasks }
     ensures loads { LoadsBack (state bench.now).desk.tasks }
+    ensures once { SavedOnce (state bench.now).desk.tasks }
     ensures short { length (text_of (state bench.now).desk.tasks) ≤ 65535 }
 {
     save_table(bench.table(), out)

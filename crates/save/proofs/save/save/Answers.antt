@@ -5,7 +5,7 @@ use Rattle.save.specs.Saves.{SaveDone}
 use Rattle.save.proofs.Rights.{table_together, table_rights}
 use Rattle.save.proofs.Short.{text_short}
 use Rattle.save.proofs.Back.{reads_back, reads_only}
-use Rattle.save.proofs.Reloading.{loads_back}
+use Rattle.save.proofs.Reloading.{loads_back, saved_once}
 use Rattle.save.proofs.save.save.Goals as goal
 
 pub returns : goal.returns
@@ -18,5 +18,6 @@ returns c =
       back = reads_back (items t) a b;
       only = reads_only (items t) a b;
       loads = loads_back (items t) (reads_only (items t) a b) (text_short (items t) a b);
+      once = saved_once (items t);
       short = text_short (items t) a b;
     }
