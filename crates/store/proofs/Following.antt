@@ -1,5 +1,5 @@
 -- Reading a text line by line comes to the end that the whole text comes to. Assumes nothing.
-use Rattle.std.proofs.Common.{◌≡◌, ℕ, ◌<◌, ◌≤◌, Bool, true, false, ◌⊎◌, List, ◌++◌, cond, ltb, length, take, is_ok, Ok, Err, Result, sym, ap, ◌∙◌, subst, subst₂, inl, inr, arith, length-append}
+use Rattle.std.proofs.Common.{◌≡◌, ℕ, ◌<◌, ◌≤◌, Bool, true, false, ◌⊎◌, List, ◌++◌, cond, ltb, length, take, is_ok, Ok, Err, Result, MatchResult, IsErrAnd, sym, ap, ◌∙◌, subst, subst₂, inl, inr, arith, length-append}
 use lib.Seq.{take-append-le}
 use Rattle.std.proofs.lemmas.List.{take_all}
 use Rattle.line.specs.declared.refusal.Refusal.TheVariants.{OutOfRange, NoMemory, Trailer}
@@ -7,7 +7,7 @@ use Rattle.line.specs.Answers.{and_then, sheet_answer}
 use Rattle.table.specs.Items.{Item}
 use Rattle.table.specs.Tables.{items}
 use Rattle.table.specs.declared.table.Table.{Table}
-use Rattle.std.proofs.lemmas.Bool.{cond-true}
+use Rattle.std.proofs.lemmas.Bool.{cond-true, false≢true}
 use Rattle.editor.specs.Desks as desks
 use Rattle.editor.proofs.Passing.{second}
 use Rattle.bench.specs.State.{State, edited, no_run, install_answer, after_install}
@@ -71,3 +71,13 @@ loaded s text sheet is s' work work' sheet' may same reads closes after copied =
 -- A list that was refilled whole holds what was written.
 pub refilled_whole : (n : ℕ) (ys xs : List ℕ) → length ys ≡ n → take n (ys ++ xs) ≡ ys
 refilled_whole n ys xs e = let h : n ≤ length ys = omega (arith, e) in rw take-append-le (take_all n ys (omega (arith, e)))
+
+-- What `map_err` was called on, by what it gives: a fault of a line, with what is known of it there; or the answer.
+pub raised : (P : Result Bool LineFault → Type 0) (r : Result Bool LineFault) (m : Result Bool LoadFault) {post : LineFault → LoadFault → Type 0} (f : LineFault → LoadFault) → P r → MatchResult r (λ x. m ≡ Ok x) (λ e. IsErrAnd m (post e))
+    → ((e : LineFault) (d : LoadFault) → post e d → d ≡ f e) → (y : LoadFault) → m ≡ Err y → (e : LineFault) × P (Err e) × (y ≡ f e)
+raised P (Ok x) m f p same is y e = absurd (false≢true (ap is_ok (sym e ∙ same)))
+raised P (Err x) m {post} f p some is y e = (x, p, is x y (subst (λ m. IsErrAnd m (post x)) e some))
+
+pub passed : (r : Result Bool LineFault) (m : Result Bool LoadFault) (post : LineFault → LoadFault → Type 0) → MatchResult r (λ x. m ≡ Ok x) (λ e. IsErrAnd m (post e)) → (b : Bool) → m ≡ Ok b → r ≡ Ok b
+passed (Ok x) m post same b e = let k : x ≡ b = cc (sym same ∙ e) in ap Ok k
+passed (Err x) m post some b e = absurd (subst (λ m. IsErrAnd m (post x)) e some)

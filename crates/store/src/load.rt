@@ -50,10 +50,11 @@ fn read(heap: Global, text: &[u8], sheet: &mut [u32]) -> Result<Table, LoadFault
     while !reader.is_done() {
         let line = reader.line();
         let place = reader.place();
-        match loader.next(&mut reader, sheet) {
-            Ok(true) => return last(&reader, loader),
-            Ok(false) => {}
-            Err(fault) => return Err(fault.at(line, place)),
+        let is_end = loader
+            .next(&mut reader, sheet)
+            .map_err(|fault| fault.at(line, place))?;
+        if is_end {
+            return last(&reader, loader);
         }
     }
     Err(no_trailer(&reader))
