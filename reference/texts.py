@@ -47,6 +47,29 @@ def sporadics(n, first=1):
     return [b"sporadic %d 1 1000 1000\n" % (first + k) for k in range(n)]
 
 
+def spelled(word, numbers):
+    return b" ".join([word, *(b"%d" % n for n in numbers)]) + b"\n"
+
+
+EDGES = (0, 1, 2, 15, 16, 999, 1000, 1001, 100000, 100001, 999999, 1000000, 4294967295)
+
+
+def text_edges():
+    """Each number of each form at the edges of every range, in a text that is right otherwise."""
+    right = [(b"sporadic", [7, 2, 10, 10]), (b"angular", [20]), (b"mode", [5, 20]), (b"link", [0, 0, 30])]
+    lines = [spelled(*line) for line in right]
+    tasks = b"".join(lines)
+    trailer = [2, len(lines[0])]
+    for value in EDGES:
+        for k, (word, numbers) in enumerate(right):
+            for at in range(len(numbers)):
+                changed = [*lines]
+                changed[k] = spelled(word, numbers[:at] + [value] + numbers[at + 1 :])
+                yield table([changed[0], b"".join(changed[1:])])
+        for at in range(len(trailer)):
+            yield tasks + spelled(b"end", trailer[:at] + [value] + trailer[at + 1 :])
+
+
 def examples():
     yield TABLE
     yield TABLE.replace(b"6 50 30", b"6 50 18")
@@ -79,6 +102,8 @@ def refused():
     yield from (one + line for line in lines)
     yield from (one.rstrip(b"\n"), TABLE.rstrip(b"\n"), b"end 0 0", b"e", ring + b"mode", one + b"mode 5 20\n", one + b"link 0 0 30\n")
     yield ring + one.replace(b"7", b"8") + b"mode 1 2\n"
+    # 5 and 6, and not 20: neither a formless line nor the text's end closes the task above
+    yield from (b"angular 20\nmode 5 20\nx\n", b"angular 20\nmode 5 20\n")
     # 6: the trailer
     yield from (b"", one, ring, TABLE[:-9], b"end 1 0\n", b"end 0 1\n", one + b"end 0 0\n", one + b"end 1 1\n", one + b"end 2 0\n")
     yield from (one + ring + b"end 2 0\n", one + ring + b"end 2 %d\n" % (len(one) + 1), TABLE + b"\n", TABLE + b"end 3 98\n", TABLE + b"x", b"end 0 0\nend 0 0\n", TABLE + one)
@@ -144,7 +169,7 @@ def damaged(rng, n):
 
 def main():
     rng = random.Random(20261118)
-    cases = [*examples(), *refused(), *tables(rng, 60), *damaged(rng, 120)]
+    cases = [*examples(), *refused(), *text_edges(), *tables(rng, 60), *damaged(rng, 120)]
     folder = os.path.join(os.path.dirname(os.path.abspath(__file__)), "..", "crates", "texts")
     with open(os.path.join(folder, "stdin"), "wb") as texts, open(os.path.join(folder, "stdout"), "w") as reports:
         for text in cases:

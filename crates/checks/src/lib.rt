@@ -9,12 +9,17 @@ mod tests {
     use line::Line;
     use line::limits::SHEET;
     use std::test::Fail;
+    use store::fault::Layer;
     use store::load::load;
 
-    // The number, line and place of load's refusal, if it is refused.
-    fn refusal(bench: &mut Bench, text: &[u8], sheet: &mut [u32]) -> Option<(u8, usize, usize)> {
+    // The number, line, place and layer of load's refusal, if it is refused.
+    fn refusal(
+        bench: &mut Bench,
+        text: &[u8],
+        sheet: &mut [u32],
+    ) -> Option<(u8, usize, usize, Layer)> {
         let fault = load(bench, text, sheet).err()?;
-        Some((fault.refusal.number(), fault.line, fault.place))
+        Some((fault.refusal.number(), fault.line, fault.place, fault.layer))
     }
 
     #[test]
@@ -24,13 +29,19 @@ mod tests {
         let mut sheet = vec![in heap; 7; SHEET]?;
         let mut short = vec![in heap; 7; 10]?;
         let text = b"sporadic 7 2 10 10\nend 1 0\n";
-        assert_eq!(rt; refusal(&mut bench, text, &mut short), Some((2, 0, 0)));
+        assert_eq!(rt;
+            refusal(&mut bench, text, &mut short),
+            Some((2, 0, 0, Layer::Table))
+        );
         assert_eq!(rt; refusal(&mut bench, text, &mut sheet), None);
-        assert_eq!(rt; refusal(&mut bench, text, &mut sheet), Some((14, 0, 0)));
+        assert_eq!(rt;
+            refusal(&mut bench, text, &mut sheet),
+            Some((14, 0, 0, Layer::Table))
+        );
         let draft = bench.open(20, 0)?;
         let answer = refusal(&mut bench, text, &mut sheet);
         bench.abandon(draft);
-        assert_eq!(rt; answer, Some((12, 0, 0)));
+        assert_eq!(rt; answer, Some((12, 0, 0, Layer::Table)));
         assert_eq!(rt; bench.table().count(), 1);
         Ok(())
     }
@@ -41,7 +52,10 @@ mod tests {
         let mut bench = Bench::new(1, heap)?;
         let mut sheet = vec![in heap; 7; SHEET]?;
         let text = b"angular 20\nmode 5 20\nlink 0 0 30\nsporadic 7 2 10 10\nend 2 1\n";
-        assert_eq!(rt; refusal(&mut bench, text, &mut sheet), Some((6, 5, 52)));
+        assert_eq!(rt;
+            refusal(&mut bench, text, &mut sheet),
+            Some((6, 5, 52, Layer::Text))
+        );
         assert_eq!(rt; bench.table().count(), 0);
         assert_eq!(rt; sheet.first().copied(), Some(7));
         Ok(())
