@@ -81,6 +81,13 @@ impl Play {
         Ok(self.worst[place][mode])
     }
 
+    /// Ends the run, a late one too, and answers its clock.
+    pub fn stop(self) -> u32
+        ensures { result ≡ (course self).clock }
+    {
+        self.clock()
+    }
+
     /// A line at the present clock.
     pub(crate) fn at<'a, L: Line>(&self, line: &'a L) -> Moment<'a, L>
         ensures line { result.line.now ≡ line.now }

@@ -108,6 +108,6 @@ impl Bench {
         if bench != self.id {
             return 0;
         }
-        self.run.take().map_or(0, |play| play.clock())
+        self.run.take().map_or(0, |play| play.stop())
     }
 }
