@@ -70,6 +70,25 @@ class Lists:
 
 # The worked examples
 
+PAGE = os.path.join(os.path.dirname(os.path.abspath(__file__)), "..", "docs", "CONSOLE.md")
+
+
+def fenced(page, word):
+    """The lines between a fence with that word and the next fence."""
+    return page.split("```%s\n" % word, 1)[1].split("```", 1)[0]
+
+
+def documented(lists):
+    """The list on the console's page, whose answers stand there too."""
+    with open(PAGE) as file:
+        page = file.read()
+    lists.add("bench", 1)
+    first = len(lists.answers)
+    for line in fenced(page, "calls").splitlines():
+        lists.add(line)
+    assert "".join(lists.answers[first:]) == fenced(page, "answers")
+
+
 def examples(lists):
     for text in texts.examples():
         lists.add("bench", 1)
@@ -556,6 +575,7 @@ def main():
     rng = random.Random(20261119)
     lists = Lists()
     examples(lists)
+    documented(lists)
     strangers_and_words(lists)
     edges(lists, rng)
     states(lists, rng)
