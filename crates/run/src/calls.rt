@@ -85,7 +85,7 @@ impl Play {
     pub fn stop(self) -> u32
         ensures { result ≡ (course self).clock }
     {
-        self.clock()
+        Play::clock(&self)
     }
 
     /// A line at the present clock.
