@@ -18,24 +18,24 @@ use anyhow::anyhow;
 use calls::call::Entry;
 use calls::list::{Calls, Step};
 use player::Player;
-use std::io::{Read, Write};
+use std::io::{BufWriter, Read, Write};
 
 /// Plays the call of a line, if it is one, and writes its answer. A line that is passed over has none.
-fn play(rt: &HostRuntime, player: &mut Player, step: &Step<'_>) -> anyhow::Result<()> {
+fn play<W: Write>(out: &mut W, player: &mut Player, step: &Step<'_>) -> anyhow::Result<()> {
     let (call, answer) = match step.entry {
         Entry::Remark => return Ok(()),
         Entry::Unknown => (None, Answer::Unknown),
         Entry::Call(call) => (Some(call), player.play(call, step.text)),
     };
     let line = player.tell(call, answer).map_err(|_| anyhow!("no memory"))?;
-    rt.stdout().write_all(&line)?;
+    out.write_all(&line)?;
     Ok(())
 }
 
 /// Plays a whole list.
-fn run(rt: &HostRuntime, player: &mut Player, list: &[u8]) -> anyhow::Result<()> {
+fn run<W: Write>(out: &mut W, player: &mut Player, list: &[u8]) -> anyhow::Result<()> {
     for step in Calls::new(list) {
-        play(rt, player, &step)?;
+        play(out, player, &step)?;
     }
     Ok(())
 }
@@ -43,10 +43,14 @@ fn run(rt: &HostRuntime, player: &mut Player, list: &[u8]) -> anyhow::Result<()>
 fn start(rt: &HostRuntime) -> anyhow::Result<()> {
     let mut list = Vec::new(rt.alloc());
     rt.stdin().read_to_end(&mut list)?;
+    let mut out = BufWriter::new(rt.alloc(), rt.stdout())?;
     let mut player = Player::new(rt.alloc()).map_err(|_| anyhow!("no memory"))?;
-    let done = run(rt, &mut player, &list);
+    let done = run(&mut out, &mut player, &list);
     player.finish();
-    done
+    let written = out.flush();
+    done?;
+    written?;
+    Ok(())
 }
 
 fn main(rt: HostRuntime) -> anyhow::Result<()> {

@@ -206,6 +206,11 @@ impl Player {
         }
     }
 
+    /// Keeps the longest times after an accepted call of the run, which changes nothing else.
+    fn look_at_run(&mut self) {
+        self.seen.look_at_run(&self.bench, self.run.as_ref());
+    }
+
     /// Keeps what stands after an accepted call.
     fn look(&mut self) -> Result<(), Refusal> {
         self.seen = Seen::new(self.heap, &self.bench, self.run.as_ref(), &self.lent)?;
@@ -221,7 +226,11 @@ impl Player {
                 .stands(self.heap, &self.bench, self.run.as_ref(), &self.lent)?,
             None => {
                 if answer.is_played() && may_change(call) {
-                    self.look()?;
+                    if matches!(call, Some(Call::Running(_))) {
+                        self.look_at_run();
+                    } else {
+                        self.look()?;
+                    }
                 }
                 false
             }

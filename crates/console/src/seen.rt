@@ -3,6 +3,7 @@ use crate::lent::Lent;
 use bench::bench::Bench;
 use bench::ticket::Run;
 use bench::verdict::Verdict;
+use line::Line;
 use line::limits::{MODES, PLACES};
 use line::refusal::Refusal;
 use save::save::save;
@@ -32,6 +33,9 @@ fn text_of(heap: Global, bench: &Bench) -> Result<Vec<u8>, Refusal> {
 /// The bound that is shown of a mode of the task at a place, and 0 where there is none. By place, and so for places and
 /// modes that are not there too; a report's goes by number, and what the two share is the one call.
 fn bound_at(bench: &Bench, place: usize, mode: usize) -> u32 {
+    if mode >= bench.table().modes(place) {
+        return 0;
+    }
     // Each place and mode has a cell, and 0 is what it holds of one without a bound.
     bench
         .bound(bench.table().number_at(place), mode)
@@ -45,6 +49,9 @@ fn bounds_of(bench: &Bench) -> [[u32; MODES]; PLACES] {
 
 /// The longest time in a run of a mode of the task at a place, and 0 where there is none.
 fn longest_at(bench: &Bench, run: Option<&Run>, place: usize, mode: usize) -> u32 {
+    if mode >= bench.table().modes(place) {
+        return 0;
+    }
     // 0 is what a run answers of a mode without a finished job, and is seen of a stranger's ticket.
     run.and_then(|run| bench.worst(run, bench.table().number_at(place), mode).ok())
         .unwrap_or(0)
@@ -71,6 +78,11 @@ impl Seen {
             longest: longest_of(bench, run),
             lent,
         })
+    }
+
+    /// Keeps the longest times.
+    pub(crate) fn look_at_run(&mut self, bench: &Bench, run: Option<&Run>) {
+        self.longest = longest_of(bench, run);
     }
 
     /// The length of the table's text.
