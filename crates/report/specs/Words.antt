@@ -1,5 +1,5 @@
 -- What a report says, byte for byte. Assumes nothing.
-use Rattle.std.specs.Prelude.{◌≡◌, ℕ, zero, suc, ◌⊎◌, List, [], ◌++◌, length, Some, None, Option, Ok, Err, string_bytes, codes, decimal, Result, String}
+use Rattle.std.specs.Prelude.{◌≡◌, ℕ, zero, suc, ◌⊎◌, List, [], ◌++◌, length, Some, None, Option, Ok, Err, string_bytes, codes, decimal, ◌≢◌, Result, String}
 use Rattle.std.specs.Option.{unwrap_or}
 use Rattle.std.specs.Result.{result_ok}
 use Rattle.std.specs.declared.alloc.Global.{Global}
@@ -55,11 +55,12 @@ judged_text s = tasks_text s (length s.desk.tasks) ++ verdict_text s.verdict
 abbrev pub judged_of : List Item → State
 judged_of is = after_judge (edited (fresh 1) (with_tasks clear is))
 
--- What is reported of a text: the bounds and the verdict of the table that it spells, or why it is refused.
+-- What is reported of a text: the bounds and the verdict of the table that it spells, or why it is refused. Want of
+-- memory is not reported.
 abbrev pub Reported : List ℕ → List ℕ → Type 0
 Reported text out =
     ((is : List Item) × Reading text (Ok is) × (out ≡ judged_text (judged_of is)))
-    ⊎ ((f : LoadFault) × (sheet : List ℕ) × (length sheet ≡ 16016) × Why (fresh 1) text sheet f × (out ≡ fault_text f))
+    ⊎ ((f : LoadFault) × (sheet : List ℕ) × (length sheet ≡ 16016) × Why (fresh 1) text sheet f × (f.refusal ≢ NoMemory) × (out ≡ fault_text f))
 
 -- Only want of memory leaves a text without a report.
 abbrev pub ReportDone : List ℕ → Result (String Global) Refusal → Type 0

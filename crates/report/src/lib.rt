@@ -1,7 +1,7 @@
 //! What the judging program writes of a text: the bound of every mode and the verdict, or the refusal.
 #![tactic(auto)]
 
-ghost use Rattle.std.specs.Prelude.{◌≡◌, ◌++◌, length, string_bytes, MatchResult, IfOk, OnOk};
+ghost use Rattle.std.specs.Prelude.{◌≡◌, ◌≢◌, ◌++◌, length, string_bytes, MatchResult, IfOk, OnOk};
 ghost use Rattle.line.specs.declared.refusal.Refusal.TheVariants.{NoMemory};
 ghost use Rattle.bench.specs.State.{state, after_judge};
 ghost use Rattle.report.specs.Words.{fault_text, bound_shown, task_text, tasks_text, judged_text, ReportDone};
@@ -63,7 +63,7 @@ fn judged(heap: Global, bench: &mut Bench) -> Result<String, AllocError>
 
 /// Why a text is refused. Want of memory is not reported.
 fn refused(heap: Global, fault: LoadFault) -> Result<String, Refusal>
-    ensures { MatchResult result (λ s. string_bytes s ≡ fault_text fault) (λ e. e ≡ NoMemory) }
+    ensures { MatchResult result (λ s. (fault.refusal ≢ NoMemory) × (string_bytes s ≡ fault_text fault)) (λ e. e ≡ NoMemory) }
 {
     if fault.refusal == Refusal::NoMemory {
         return Err(Refusal::NoMemory);
