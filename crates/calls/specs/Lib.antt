@@ -1,4 +1,4 @@
 pub mod Words
 pub mod Names
-pub mod Runs
+pub mod Kinds
 pub mod Lists

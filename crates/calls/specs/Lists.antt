@@ -1,8 +1,8 @@
 -- What a list of calls says, line by line. Assumes nothing.
 use Rattle.std.specs.Prelude.{ℕ, zero, suc, ◌+◌, Bool, true, cond, List, [], ◌∷◌, ◌++◌, length, take, drop, Some, None, Option, nat_lt, ◌==◌, unwrap_or}
 use Rattle.std.specs.Option.{option_and_then, option_or}
-use Rattle.calls.specs.Names.{or_else, plain_call, call_of_one, call_of_two, call_of_three, call_of_four, call_of_five, length_named, memory_named}
-use Rattle.calls.specs.Runs.{running_named}
+use Rattle.calls.specs.Names.{or_else, length_named, memory_named}
+use Rattle.calls.specs.Kinds.{edit_named, drafting_named, running_named, question_named, other_named}
 use Rattle.calls.specs.Words.{front, behind, number_32}
 use Rattle.calls.specs.declared.call.Call.{Call}
 use Rattle.calls.specs.declared.call.Call.TheVariants as call
@@ -25,19 +25,14 @@ numbers_from (suc n) seen (Some text) = option_and_then (λ v. numbers_from n (s
 abbrev pub numbers_in : Option (List ℕ) → Option (List ℕ)
 numbers_in words = numbers_from 5 [] words
 
--- The call of a name and its numbers, but for a run's.
-abbrev pub table_call : List ℕ → List ℕ → Option Call
-table_call w [] = plain_call w
-table_call w (a ∷ []) = call_of_one w a
-table_call w (a ∷ (b ∷ [])) = call_of_two w a b
-table_call w (a ∷ (b ∷ (c ∷ []))) = call_of_three w a b c
-table_call w (a ∷ (b ∷ (c ∷ (d ∷ [])))) = call_of_four w a b c d
-table_call w (a ∷ (b ∷ (c ∷ (d ∷ (e ∷ []))))) = call_of_five w a b c d e
-table_call w (a ∷ (b ∷ (c ∷ (d ∷ (e ∷ (f ∷ r)))))) = None
-
--- The call of a name and its numbers: a run's, or another.
+-- The call of a name and its numbers, of whichever kind.
 abbrev pub call_named : List ℕ → List ℕ → Option Call
-call_named w numbers = or_else call.Running (running_named w numbers) (table_call w numbers)
+call_named w numbers =
+    or_else call.Edit (edit_named w numbers)
+    (or_else call.Drafting (drafting_named w numbers)
+    (or_else call.Running (running_named w numbers)
+    (or_else call.Ask (question_named w numbers)
+    (other_named w numbers))))
 
 -- A call that lends memory says how much of which.
 abbrev pub lent_by : Option Length → Option Memory → Option Call
