@@ -14,9 +14,8 @@ use line::limits::{MODES, PLACES};
 const LAST_UNIT: u32 = 1;
 
 impl Play {
-    /// Ticks until the clock shows `end`, or a job is late.
-    pub(crate) fn run_to<L: Line>(&mut self, line: &L, end: u32)
-        requires { (course self.old).clock ≤ end }
+    /// Ticks until the clock shows `end`, or a job is late; where it shows `end` or more already, nothing is done.
+    pub fn run_to<L: Line>(&mut self, line: &L, end: u32)
         ensures later { (course self.old).clock ≤ (course self.new).clock }
         ensures state { course self.new ≡ after_ticks (L.meaning line.now) (end - (course self.old).clock) (course self.old) }
     {
