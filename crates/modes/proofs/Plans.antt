@@ -1,5 +1,5 @@
 -- The limits of a graph of modes, as it is filled. Assumes nothing.
-use Rattle.std.proofs.Common.{◌≡◌, ℕ, zero, suc, ◌+◌, ◌-◌, ◌*◌, ◌<◌, ◌≤◌, Bool, true, false, cond, not, ◌&&◌, ◌||◌, eqb, List, [], ◌∷◌, ◌++◌, length, get_or, take, set, replicate, is_some, is_ok, Some, None, Ok, Err, vec_items, vec_len, Decides, Option, sym, refl, ap, ◌∙◌, subst, inl, inr, add-one, arith, length-set, get_or-set_other, get_or-set_same}
+use Rattle.std.proofs.Common.{◌≡◌, ℕ, zero, suc, ◌+◌, ◌-◌, ◌*◌, ◌<◌, ◌≤◌, Bool, true, false, cond, not, ◌&&◌, ◌||◌, eqb, List, [], ◌∷◌, ◌++◌, length, get_or, take, set, replicate, is_some, is_ok, Some, None, Ok, Err, vec_items, vec_len, Decides, Option, sym, refl, ap, ◌∙◌, subst, inl, inr, add-one, arith, length-set, length-take-le, get_or-set_other, get_or-set_same}
 use Rattle.std.specs.List.{list_any, list_all}
 use Rattle.std.proofs.Math.Bool.{or_comm, and_comm}
 use Rattle.std.proofs.lemmas.List.Folds.{list_any_more, list_all_more}
@@ -107,6 +107,10 @@ set_right modes gaps from to gap lf lt long right h a b lb = elim (cases_eq (a *
 -- There is a row for each mode.
 pub tall : (g : ModeGraph) → vec_len g.gaps ≡ 16
 tall g = omega (arith, length-cells (vec_items g.gaps) g.rows, g.square, g.gaps.ok.0)
+
+-- So there are as many rows in front as there are modes, or fewer.
+pub rows_there : (g : ModeGraph) (n : ℕ) (rows : List (List (Option ℕ))) → n ≤ vec_len g.modes → rows ≡ vec_items g.gaps → n ≡ length (take n rows)
+rows_there g n rows few e = sym (length-take-le n rows (omega (arith, tall g, g.few, g.gaps.ok.0, ap length e)))
 
 -- A row has a gap just if its mode has a link to one of the modes.
 module _ (G : Graph) (a : ℕ) (row : List (Option ℕ)) (long : length row ≡ 16) (same : (b : ℕ) → b < 16 → get_or row b None ≡ G.gap a b) where

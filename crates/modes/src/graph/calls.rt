@@ -1,5 +1,5 @@
 //! What may be asked of a graph of modes, and how it is filled.
-ghost use Rattle.std.specs.Prelude.{◌≡◌, ◌<◌, ◌≤◌, true, length, replicate, is_some, is_ok, is_err, None, Ok, Decides, MatchResult};
+ghost use Rattle.std.specs.Prelude.{◌≡◌, ◌<◌, ◌≤◌, true, length, replicate, take, is_some, is_ok, is_err, None, Ok, Decides, MatchResult};
 ghost use Rattle.std.specs.List.{list_any};
 ghost use Rattle.line.specs.declared.refusal.Refusal.TheVariants.{NoMemory};
 ghost use Rattle.line.specs.Changes.{change_answer};
@@ -160,11 +160,18 @@ impl ModeGraph {
         Ok(())
     }
 
+    /// The rows of the gaps out of each mode.
+    fn rows(&self) -> &[[Option<u32>; MODES]]
+        ensures { result.now ≡ take (length (plan self.now).modes) self.now.gaps.items }
+    {
+        &self.gaps[..self.modes.len()]
+    }
+
     /// Whether each mode has a link out.
     fn all_lead_out(&self) -> bool
         ensures { result ≡ all_lead_out (graph_of (plan self.now)) (length (plan self.now).modes) }
     {
-        self.gaps[..self.modes.len()].iter().all(|row| has_gap(row))
+        self.rows().iter().all(|row| has_gap(row))
     }
 
     /// Whether there is a mode and each has a link out.
