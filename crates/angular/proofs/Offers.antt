@@ -1,8 +1,8 @@
 -- What the next modes offer, and the greatest of it. Assumes nothing.
-use Rattle.std.proofs.Common.{◌≡◌, ℕ, zero, suc, ◌+◌, ◌-◌, ◌<◌, ◌≤◌, max, map, ltb, List, [], ◌∷◌, length, fold, Some, None, Option, MatchOption, IfSome, unwrap_or, Bor, true, false, sym, refl, ap, ◌∙◌, subst, inl, inr, arith}
+use Rattle.std.proofs.Common.{◌≡◌, ℕ, zero, suc, ◌+◌, ◌-◌, ◌<◌, ◌≤◌, max, map, ltb, [], ◌∷◌, length, fold, Some, None, Option, MatchOption, IfSome, unwrap_or, Bor, true, false, sym, refl, ap, ◌∙◌, subst, inl, inr, arith}
 use Rattle.std.specs.Fn.{Called, CalledAt}
 use Rattle.std.specs.Iterator.Runs.{Run, AnyItem, NoKeyBeyond, ItemsCountDown, IsIdenticalRun}
-use Rattle.std.specs.List.{reduce, range_with_len}
+use Rattle.std.specs.List.{range_with_len}
 use Rattle.std.specs.Ordering.{is_gt, nat_cmp}
 use denote.Param.Members.{Mut}
 use Rattle.std.proofs.lemmas.Bool.{cases_lt, cond-true, cond-false, lt-ltb, le-ltb}
@@ -19,10 +19,6 @@ use Rattle.angular.specs.Sheets.{Onward}
 use Rattle.angular.specs.Walks.{offer_some, over_top, over_pick}
 
 -- The greatest of a function's values is the greatest of the list of them.
-greatest_of : (xs : List ℕ) → unwrap_or (reduce max xs) 0 ≡ fold max 0 xs
-greatest_of [] = refl
-greatest_of (x ∷ xs) = ap (λ a. fold max a xs) {x = x} {y = max 0 x} (omega arith)
-
 over_range : (f : ℕ → ℕ) (n : ℕ) → fold max 0 (map f (range_with_len 0 n)) ≡ over f n
 over_range f zero = refl
 over_range f (suc n) =
@@ -36,10 +32,9 @@ over_same f g zero h = refl
 over_same f g (suc n) h = let a = over_same f g n (λ k l. h k (omega arith)) in let b = h n (omega arith) in omega arith
 
 module _ (p : Plan) (F : ℕ → ℕ → ℕ) (m w : ℕ) (from : m < length p.modes) where
-  pub greatest_offer : unwrap_or (reduce max (map (λ b. offer (gap_at p m b) w (F b)) (range_with_len 0 (length p.modes)))) 0 ≡ next (graph_of p) F m w
+  pub greatest_offer : fold max 0 (map (λ b. offer (gap_at p m b) w (F b)) (range_with_len 0 (length p.modes))) ≡ next (graph_of p) F m w
   greatest_offer =
-      greatest_of (map (λ b. offer (gap_at p m b) w (F b)) (range_with_len 0 (length p.modes)))
-      ∙ over_range (λ b. offer (gap_at p m b) w (F b)) (length p.modes)
+      over_range (λ b. offer (gap_at p m b) w (F b)) (length p.modes)
       ∙ over_same (λ b. offer (gap_at p m b) w (F b)) (λ b. offer ((graph_of p).gap m b) w (F b)) (length p.modes) (λ b lt. ap (λ o. offer o w (F b)) (sym (gap_between p m b from lt)))
 
 -- The item with the greatest key, of the numbers below n: no key is greater.

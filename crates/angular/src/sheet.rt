@@ -59,11 +59,11 @@ impl<'a> Sheet<'a> {
         requires window { w ≤ 1000 }
         ensures { result ≡ next (graph_of (plan self.now.graph.now)) (cell_at self.now.cells.now) m w }
     {
-        // There is always one: the mode that is left.
+        // A fold from 0, which is what no mode offers, and not `max`: that takes the first offer before the loop, and the loop
+        // then costs a third more where a walk is shown.
         (0..self.graph.len())
             .map(|b| self.offered(m, w, b))
-            .max()
-            .unwrap_or(0)
+            .fold(0, |most: u32, work| most.max(work))
     }
 
     /// The greatest work of a walk that begins in `m` and fits `w`, from the columns before.

@@ -1,8 +1,6 @@
-use Rattle.std.proofs.Common.{map, length, sym, ap, ◌∙◌, unwrap_or, refl, rules, arith}
-use Rattle.std.specs.List.{range_with_len}
+use Rattle.std.proofs.Common.{max, length, ◌∙◌, refl, rules, arith}
 use Rattle.std.proofs.lemmas.Iterator.{YieldsList-from_range, YieldsList-from_map}
-use Rattle.std.proofs.lemmas.Iterator.Consumers.{max_from_yields_List}
-use Rattle.std.proofs.lemmas.Iterator.Adapters.{option_map_id}
+use Rattle.std.proofs.lemmas.Iterator.Consumers.{fold_from_yields_List}
 use Rattle.modes.specs.Graphs.{plan}
 use Rattle.modes.specs.Plans.{gap_at}
 use Rattle.angular.specs.Best.{offer}
@@ -15,6 +13,6 @@ returns c =
     let s = c.args.self.now in
     let p = plan s.graph.now in
     let n = length p.modes in
-    let most = max_from_yields_List {all = map (λ b. offer (gap_at p c.args.m b) c.args.w (cell_at s.cells.now b)) (range_with_len 0 n)} _ c.max.result c.max.ensures.ran
-    (YieldsList-from_map _ (λ b. offer (gap_at p c.args.m b) c.args.w (cell_at s.cells.now b)) (YieldsList-from_range 0 n n (search rules) (omega arith)) refl (λ x r q k. search rules)) in
-    c.unwrap_or.ensures ∙ ap (λ o. unwrap_or o 0) (sym (option_map_id c.max.result) ∙ most) ∙ greatest_offer p (cell_at s.cells.now) c.args.m c.args.w c.requires.from
+    fold_from_yields_List _ max 0 _ c.fold.ensures.ran
+    (YieldsList-from_map _ (λ b. offer (gap_at p c.args.m b) c.args.w (cell_at s.cells.now b)) (YieldsList-from_range 0 n n (search rules) (omega arith)) refl (λ x r q k. search rules)) (λ a x b q k. search rules)
+    ∙ greatest_offer p (cell_at s.cells.now) c.args.m c.args.w c.requires.from
